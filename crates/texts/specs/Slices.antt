@@ -1,0 +1,16 @@
+-- A part of a slice, as the borrow checker states it.
+use Prim.Native.Nat.{ℕ, _+_, _-_}
+use mathlib.Core.Path.{_≡_}
+use mathlib.Core.List.{List}
+use native.Mathlib.Omega.{arith}
+use native.Mathlib.Nat.{add-sub-cancel-left}
+use lib.ListN.{length, take, drop, length-drop}
+use lib.Seq.{take-all}
+
+-- `&s[k..]`
+pub tail-part : (k : ℕ) (s : List ℕ) → take (length s - k) (drop k s) ≡ drop k s
+tail-part k s = take-all (length s - k) (drop k s) (rw length-drop (omega arith))
+
+-- `&s[k..k + n]`
+pub mid-part : (k n : ℕ) (s : List ℕ) → take (k + n - k) (drop k s) ≡ take n (drop k s)
+mid-part k n s = rw add-sub-cancel-left

