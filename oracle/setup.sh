@@ -76,4 +76,4 @@ say "building"
 RUSTFLAGS=--cap-lints=allow cargo build --release --offline --quiet --target-dir build/target \
   --config 'source.crates-io.replace-with="debian"' \
   --config "source.debian.directory=\"$registry\"" || stop "the build failed"
-say "built: oracle/build/target/release/answers and texts"
+say "built; now oracle/answers.sh, oracle/texts.sh and oracle/fixed.sh run"

@@ -42,13 +42,19 @@ impl Ends for MtInterval {
 
 impl Ends for TxInterval {
     fn ends(&self) -> (String, String) {
-        (with_offset(self.start.base, self.start.offset), with_offset(self.end.base, self.end.offset))
+        (
+            with_offset(self.start.base, self.start.offset),
+            with_offset(self.end.base, self.end.offset),
+        )
     }
 }
 
 impl Ends for RnaInterval {
     fn ends(&self) -> (String, String) {
-        (with_offset(self.start.base, self.start.offset), with_offset(self.end.base, self.end.offset))
+        (
+            with_offset(self.start.base, self.start.offset),
+            with_offset(self.end.base, self.end.offset),
+        )
     }
 }
 
@@ -125,7 +131,11 @@ fn protein(body: &ProtLocEdit) -> String {
 
 fn protein_edit(edit: &ProteinEdit) -> String {
     match edit {
-        ProteinEdit::Fs { alternative, terminal, length } => format!(
+        ProteinEdit::Fs {
+            alternative,
+            terminal,
+            length,
+        } => format!(
             "Fs({},{},{})",
             or_dash(alternative.as_ref()),
             or_dash(terminal.as_ref()),

@@ -5,7 +5,9 @@ use crate::dice::Dice;
 use crate::grammar;
 
 /// Letters and digits to Unicode but not to ASCII, and characters of two, three and four bytes.
-const FOREIGN: &[&str] = &["é", "ſ", "K", "٣", "７", "Ａ", "ǆ", "…", "\u{200b}", "𝟙", "🧬", "\u{0}", "\u{7f}", "\r", "\t", " "];
+const FOREIGN: &[&str] = &[
+    "é", "ſ", "K", "٣", "７", "Ａ", "ǆ", "…", "\u{200b}", "𝟙", "🧬", "\u{0}", "\u{7f}", "\r", "\t", " ",
+];
 
 pub fn damaged_copy(dice: &mut Dice) -> Vec<u8> {
     let mut text = grammar::text(dice).into_bytes();

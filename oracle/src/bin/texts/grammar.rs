@@ -3,8 +3,9 @@
 use crate::alphabets::*;
 use crate::dice::Dice;
 
-const ACCESSIONS: &[&str] =
-    &["AB_12.3", "NM_000088.4", "NP_000079.2", "NC_012920.1", "LRG_199t1", "ENST00000357033.9", "A1", "zz", "Ab.0"];
+const ACCESSIONS: &[&str] = &[
+    "AB_12.3", "NM_000088.4", "NP_000079.2", "NC_012920.1", "LRG_199t1", "ENST00000357033.9", "A1", "zz", "Ab.0",
+];
 const GENES: &[&str] = &["KIT", "TTN", "c11orf95", "7SK", "0", "Met1"];
 const FITTING: &[&str] = &[
     "0", "00", "1", "01", "001", "2", "5", "9", "10", "76", "99", "100", "2147483646", "2147483647", "02147483647",
@@ -21,7 +22,11 @@ pub fn text(dice: &mut Dice) -> String {
 }
 
 pub fn header(dice: &mut Dice, kind: &str) -> String {
-    let accession = if dice.one_in(4) { made_accession(dice) } else { dice.pick(ACCESSIONS).to_owned() };
+    let accession = if dice.one_in(4) {
+        made_accession(dice)
+    } else {
+        dice.pick(ACCESSIONS).to_owned()
+    };
     let gene = match dice.below(8) {
         0 => format!("({})", dice.pick(GENES)),
         1 => format!("({})", alphanumerics(dice)),
@@ -44,7 +49,10 @@ fn made_accession(dice: &mut Dice) -> String {
 
 fn alphanumerics(dice: &mut Dice) -> String {
     let count = 1 + dice.below(5);
-    dice.joined(&["0", "1", "9", "A", "M", "Z", "a", "m", "z", "12345678901", "del"], count)
+    dice.joined(
+        &["0", "1", "9", "A", "M", "Z", "a", "m", "z", "12345678901", "del"],
+        count,
+    )
 }
 
 fn digits(dice: &mut Dice, count: usize) -> String {
@@ -155,7 +163,11 @@ fn nucleotide_edit(dice: &mut Dice) -> String {
 }
 
 fn residue(dice: &mut Dice) -> &'static str {
-    let residues = if dice.one_in(2) { RESIDUES_OF_ONE } else { RESIDUES_OF_THREE };
+    let residues = if dice.one_in(2) {
+        RESIDUES_OF_ONE
+    } else {
+        RESIDUES_OF_THREE
+    };
     dice.pick(residues)
 }
 
@@ -170,7 +182,11 @@ fn perhaps_residue(dice: &mut Dice) -> &'static str {
 fn protein_body(dice: &mut Dice) -> String {
     match dice.below(20) {
         0 => dice.pick(&["Met1?", "(Met1?)", "0?", "0", "(=)", "=", "?"]).to_owned(),
-        1 => dice.pick(&["Met01?", "Met1_Met1?", "(Met1)(?)", "(Met01?)", "(Met1)?", "Met1(?)", "M1?"]).to_owned(),
+        1 => dice
+            .pick(&[
+                "Met01?", "Met1_Met1?", "(Met1)(?)", "(Met01?)", "(Met1)?", "Met1(?)", "M1?",
+            ])
+            .to_owned(),
         2..=5 => format!("({}{})", location(dice, "p"), protein_edit(dice)),
         _ => {
             let location = location(dice, "p");
@@ -193,7 +209,11 @@ fn protein_edit(dice: &mut Dice) -> String {
 }
 
 fn residues_behind(dice: &mut Dice, word: &str) -> String {
-    let residues = if dice.one_in(2) { RESIDUES_OF_ONE } else { RESIDUES_OF_THREE };
+    let residues = if dice.one_in(2) {
+        RESIDUES_OF_ONE
+    } else {
+        RESIDUES_OF_THREE
+    };
     let count = 1 + dice.below(4);
     format!("{word}{}", dice.joined(residues, count))
 }

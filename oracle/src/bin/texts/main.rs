@@ -45,7 +45,9 @@ fn parsed(argument: &str) -> usize {
 
 fn seed_of(argument: &str) -> u64 {
     match argument {
-        "any" => SystemTime::now().duration_since(UNIX_EPOCH).map_or(0, |time| time.as_nanos() as u64),
+        "any" => SystemTime::now()
+            .duration_since(UNIX_EPOCH)
+            .map_or(0, |time| time.as_nanos() as u64),
         _ => argument.parse().unwrap_or_else(|_| refuse()),
     }
 }
@@ -89,7 +91,9 @@ fn every(output: &mut impl Write, text: String, tokens: &[&str], length: usize) 
     if length == 0 {
         return Ok(());
     }
-    tokens.iter().try_for_each(|token| every(output, format!("{text}{token}"), tokens, length - 1))
+    tokens
+        .iter()
+        .try_for_each(|token| every(output, format!("{text}{token}"), tokens, length - 1))
 }
 
 fn every_byte(output: &mut impl Write) -> Result<()> {
@@ -97,11 +101,9 @@ fn every_byte(output: &mut impl Write) -> Result<()> {
         ("", "B_12.3:c.1="),
         ("A", "_12.3:c.1="),
         ("AB_12.", ":c.1="),
-        ("AB_12.3(K", "):c.1="),
         ("AB_12.3:", ".1="),
         ("AB_12.3:c.1", "="),
         ("AB_12.3:p.", "2="),
-        ("AB_12.3:p.Gl", "2="),
     ];
     for (before, behind) in PLACES {
         for byte in (0..=255).filter(|byte| *byte != b'\n') {
