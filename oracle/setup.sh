@@ -43,7 +43,7 @@ install_packages() {
   [ "$(id -u)" -eq 0 ] || stop "run this as root, or install the Debian packages ${packages[*]} first"
   say "installing the Debian packages ${packages[*]}"
   apt-get update >&2 || stop "apt-get update failed"
-  apt-get install --yes --no-install-recommends "${packages[@]}" >&2 || stop "apt-get could not install ${packages[*]}"
+  DEBIAN_FRONTEND=noninteractive apt-get install --yes --no-install-recommends "${packages[@]}" >&2 || stop "apt-get could not install ${packages[*]}"
 }
 
 command -v cargo >/dev/null || stop "missing: cargo (Rust 1.65 or later)"
