@@ -1,1 +1,4 @@
 pub mod Letters
+pub mod Classes
+pub mod Cells
+pub mod Apart

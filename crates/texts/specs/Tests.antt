@@ -3,6 +3,7 @@ use Prim.Native.Nat.{ℕ}
 use mathlib.Core.Path.{_≡_, refl}
 use mathlib.Core.Bool.{Bool, true, false, cond, _&&_, _||_}
 use mathlib.Core.Option.{Option, none, some}
+use mathlib.Core.Logic.{_⊎_, inl, inr}
 use native.Mathlib.Omega.{arith}
 
 pub clash : {b : Bool} → b ≡ true → b ≡ false → ⊥
@@ -21,6 +22,22 @@ true-and p q = rw p q
 pub and-false : (a : Bool) → a && false ≡ false
 and-false true = refl
 and-false false = refl
+
+pub or-true : (a b : Bool) → a || b ≡ true → (a ≡ true) ⊎ (b ≡ true)
+or-true true b e = inl refl
+or-true false b e = inr e
+
+pub left-or : {a : Bool} (b : Bool) → a ≡ true → a || b ≡ true
+left-or b e = rw e
+
+pub right-or : (a : Bool) {b : Bool} → b ≡ true → a || b ≡ true
+right-or true e = refl
+right-or false e = e
+
+-- a test that can't come out true comes out false
+pub never : (t : Bool) → (t ≡ true → ⊥) → t ≡ false
+never false h = refl
+never true h = absurd (h refl)
 
 pub cond-same : {A : Type 0} (b : Bool) (x : A) → cond b x x ≡ x
 cond-same true x = refl

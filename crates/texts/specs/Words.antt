@@ -5,7 +5,7 @@ use mathlib.Core.List.{List, [], _∷_, _++_}
 use mathlib.Core.Bool.{Bool, true, false, _&&_}
 use native.Mathlib.Omega.{arith}
 use native.Mathlib.Numerals.{add-one}
-use lib.ListN.{length, getD, drop, drop-of-length-le}
+use lib.ListN.{length, getD, take, drop, drop-of-length-le}
 use lib.Seq.{drop-cons}
 use lib.Dec.{eqb}
 use borrow.Author.Tests.{eq-eqb, ne-eqb, eqb-true}
@@ -44,6 +44,13 @@ unfolding starts
 starts-length [] s e = omega arith
 starts-length (x ∷ w) [] e = absurd (clash e refl)
 starts-length (x ∷ w) (y ∷ s) e = omega (arith, starts-length w s (and-true (eqb x y) (starts w s) e .1))
+
+-- w is the front of s that is as long
+pub starts-take : (w s : List ℕ) → starts w s ≡ same w (take (length w) s)
+unfolding starts same
+starts-take [] s = refl
+starts-take (x ∷ w) [] = refl
+starts-take (x ∷ w) (y ∷ s) = ap (λ (t : Bool). eqb x y && t) (starts-take w s)
 
 -- ---- one byte more, as a loop goes
 module _ (w s : List ℕ) (i : ℕ) (h : i < length w) where

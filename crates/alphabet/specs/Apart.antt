@@ -1,0 +1,114 @@
+-- How the alphabets lie to each other: what passes one test and what therefore not.
+use Prim.Native.Nat.{ℕ, _≤_, _<_}
+use Prim.Native.Char.{code}
+use mathlib.Core.Path.{_≡_, refl}
+use mathlib.Core.Bool.{Bool, true, false, not, _&&_, _||_}
+use mathlib.Core.List.{List, [], _∷_, _++_}
+use mathlib.Core.Logic.{⊎-elim}
+use native.Mathlib.Omega.{arith}
+use lib.Dec.{eqb, leb}
+use borrow.Author.Tests.{eqb-true, leb-true, not-true}
+use Rattle.texts.specs.Ascii.{ascii}
+use Rattle.texts.specs.Runs.{every}
+use Rattle.texts.specs.Tests.{and-true, or-true, never, clash}
+use Rattle.alphabet.specs.Letters.{among, eitherCase, digit, letter, alphanumeric, nucleotide, residue}
+use Rattle.alphabet.specs.Classes.{member}
+use Rattle.alphabet.specs.declared.Class.{Class}
+use Rattle.alphabet.specs.declared.Class.the-variants.{Digit, Letter, Alphanumeric, Nucleotide, Residue}
+
+-- ---- a byte of a list passes what every byte of the list passes
+pub among-every : (p : ℕ → Bool) (b : ℕ) (xs : List ℕ) → every p xs ≡ true → among b xs ≡ true → p b ≡ true
+unfolding every
+among-every p b [] e h = absurd (clash h refl)
+among-every p b (x ∷ xs) e h =
+    let a = and-true (p x) (every p xs) e in
+    ⊎-elim (λ q. rw (eqb-true b x q) (a .0)) (λ q. among-every p b xs (a .1) q) (or-true (eqb b x) (among b xs) h)
+
+pub among-none : (p : ℕ → Bool) (b : ℕ) (xs : List ℕ) → every (λ x. not (p x)) xs ≡ true → among b xs ≡ true → p b ≡ false
+among-none p b xs e h = not-true (p b) (among-every (λ x. not (p x)) b xs e h)
+
+-- a byte that passes is none of a list of which no byte passes
+pub none-among : (p : ℕ → Bool) (b : ℕ) (xs : List ℕ) → every (λ x. not (p x)) xs ≡ true → p b ≡ true → among b xs ≡ false
+none-among p b xs e h = never (among b xs) (λ q. clash h (among-none p b xs e q))
+
+-- upper-case letters
+unfoldable pub upper : ℕ → Bool
+upper b = leb 65 b && leb b 90
+
+module _ (b : ℕ) where
+  -- ---- digits and letters
+  pub digit-bounds : digit b ≡ true → (48 ≤ b) × (b ≤ 57)
+  unfolding digit
+  digit-bounds h =
+      let d = and-true (leb 48 b) (leb b 57) h in
+      (leb-true 48 b (d .0), leb-true b 57 (d .1))
+
+  pub letter-bounds : letter b ≡ true → (65 ≤ b) × (b ≤ 122)
+  unfolding letter
+  letter-bounds h = ⊎-elim (λ q. between 65 90 (omega arith) (omega arith) q) (λ q. between 97 122 (omega arith) (omega arith) q) (or-true (leb 65 b && leb b 90) (leb 97 b && leb b 122) h)
+    where
+      between : (low high : ℕ) → 65 ≤ low → high ≤ 122 → leb low b && leb b high ≡ true → (65 ≤ b) × (b ≤ 122)
+      between low high l u q =
+          let d = and-true (leb low b) (leb b high) q in
+          (omega (arith, leb-true low b (d .0)), omega (arith, leb-true b high (d .1)))
+
+  pub letter-no-digit : letter b ≡ true → digit b ≡ false
+  letter-no-digit h = never (digit b) (λ q. omega (arith, digit-bounds q, letter-bounds h))
+
+  pub digit-no-letter : digit b ≡ true → letter b ≡ false
+  digit-no-letter h = never (letter b) (λ q. clash h (letter-no-digit q))
+
+  -- ---- nucleotide letters
+  pub nucleotide-letter : nucleotide b ≡ true → letter b ≡ true
+  unfolding nucleotide letter every
+  nucleotide-letter = among-every letter b (eitherCase (ascii "ACGTURYMKWSBDHVN")) refl
+
+  pub nucleotide-no-digit : nucleotide b ≡ true → digit b ≡ false
+  nucleotide-no-digit h = letter-no-digit (nucleotide-letter h)
+
+  pub digit-no-nucleotide : digit b ≡ true → nucleotide b ≡ false
+  digit-no-nucleotide h = never (nucleotide b) (λ q. clash h (nucleotide-no-digit q))
+
+  pub nucleotide-no-mark : nucleotide b ≡ true → among b (ascii "eip=>()_?+-*:.") ≡ false
+  unfolding nucleotide every
+  nucleotide-no-mark = none-among nucleotide b (ascii "eip=>()_?+-*:.") refl
+
+  -- ---- residues
+  pub residue-upper : residue b ≡ true → upper b || eqb b (code "*") ≡ true
+  unfolding residue upper every
+  residue-upper = among-every (λ x. upper x || eqb x (code "*")) b (ascii "ACDEFGHIKLMNPQRSTVWYBZXU" ++ ascii "*") refl
+
+  pub residue-bound : residue b ≡ true → b ≤ 90
+  unfolding residue every
+  residue-bound h = leb-true b 90 (among-every (λ x. leb x 90) b (ascii "ACDEFGHIKLMNPQRSTVWYBZXU" ++ ascii "*") refl h)
+
+  pub residue-no-digit : residue b ≡ true → digit b ≡ false
+  unfolding residue digit every
+  residue-no-digit = among-none digit b (ascii "ACDEFGHIKLMNPQRSTVWYBZXU" ++ ascii "*") refl
+
+  pub digit-no-residue : digit b ≡ true → residue b ≡ false
+  digit-no-residue h = never (residue b) (λ q. clash h (residue-no-digit q))
+
+  pub residue-no-mark : residue b ≡ true → among b (ascii "=>()_?+-:.") ≡ false
+  unfolding residue every
+  residue-no-mark = none-among residue b (ascii "=>()_?+-:.") refl
+
+  -- ---- letters or digits
+  pub alphanumeric-no-mark : alphanumeric b ≡ true → among b (ascii "_.():") ≡ false
+  unfolding alphanumeric letter digit every
+  alphanumeric-no-mark = none-among alphanumeric b (ascii "_.():") refl
+
+  -- ---- no byte of 128 or above
+  pub digit-ascii : digit b ≡ true → b < 128
+  digit-ascii h = omega (arith, digit-bounds h)
+
+  pub letter-ascii : letter b ≡ true → b < 128
+  letter-ascii h = omega (arith, letter-bounds h)
+
+  pub member-ascii : (class : Class) → member class b ≡ true → b < 128
+  unfolding member alphanumeric
+  member-ascii Digit h = digit-ascii h
+  member-ascii Letter h = letter-ascii h
+  member-ascii Alphanumeric h = ⊎-elim (λ q. letter-ascii q) (λ q. digit-ascii q) (or-true (letter b) (digit b) h)
+  member-ascii Nucleotide h = letter-ascii (nucleotide-letter h)
+  member-ascii Residue h = omega (arith, residue-bound h)

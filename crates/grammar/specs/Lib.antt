@@ -1,0 +1,17 @@
+pub mod Optional
+pub mod Header
+pub mod Positions
+pub mod Shapes
+pub mod NucleotideEdits
+pub mod ProteinEdits
+pub mod Bodies
+pub mod Texts
+pub mod Values
+pub mod Meaning
+pub mod Reads
+pub mod Spans
+pub mod Records
+pub mod Numbers
+pub mod Contents
+pub mod Standing
+pub mod ContentLaw

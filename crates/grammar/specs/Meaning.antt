@@ -1,0 +1,175 @@
+-- What each tree means.
+use Prim.Native.Nat.{ℕ}
+use mathlib.Core.List.{List, [], _∷_}
+use mathlib.Core.Option.{Option, none, some}
+use lib.IntN.{ℤ}
+use Rattle.texts.specs.Ascii.{ascii}
+use Rattle.number.specs.declared.Sign.{Sign}
+use Rattle.number.specs.declared.Sign.the-variants.{Plain, Minus, Negated}
+use Rattle.number.specs.Digits.{val}
+use Rattle.number.specs.Reading.{saturated}
+use Rattle.record.specs.declared.variant.Kind.{Kind}
+use Rattle.record.specs.declared.variant.Kind.the-variants.{Cds, Genome, Mt, Tx, Prot, Rna}
+use Rattle.record.specs.declared.positions.Offset as Declared
+use Rattle.record.specs.declared.positions.Offset.the-variants.{Absent, By}
+use Rattle.record.specs.declared.positions.CdsFrom.{CdsFrom}
+use Rattle.record.specs.declared.positions.CdsFrom.the-variants.{Start, End}
+use Rattle.record.specs.declared.positions.CdsPos.{CdsPos}
+use Rattle.record.specs.declared.positions.GenomePos.{GenomePos}
+use Rattle.record.specs.declared.positions.GenomePos.the-variants.{Unknown as UnknownG, At as AtG}
+use Rattle.record.specs.declared.positions.MtPos.{MtPos}
+use Rattle.record.specs.declared.positions.MtPos.the-variants.{Unknown as UnknownM, At as AtM}
+use Rattle.record.specs.declared.positions.TxPos.{TxPos}
+use Rattle.record.specs.declared.positions.RnaPos.{RnaPos}
+use Rattle.record.specs.declared.edits.UncertainLengthChange.{UncertainLengthChange}
+use Rattle.record.specs.declared.edits.UncertainLengthChange.the-variants.{None, Unknown, Known}
+use Rattle.grammar.specs.Header as H
+use Rattle.grammar.specs.Header.{Accession, Header, Header.header, printAccession}
+use Rattle.grammar.specs.Positions.{Mark, Mark.bare, Mark.plus, Mark.minus, Mark.star, Offset, Offset.absent, Offset.ahead, Offset.back, Based, Based.based, Genomic, Genomic.known, Genomic.unknown, Residual, Residual.residual, Position}
+use Rattle.grammar.specs.Shapes.{Interval, Interval.one, Interval.two, Mu, Mu.certain, Mu.uncertain, Both, Both.both}
+use Rattle.grammar.specs.NucleotideEdits.{NaEdit, NaEdit.equal, NaEdit.swap, NaEdit.delIns, NaEdit.delNumIns, NaEdit.delNum, NaEdit.del, NaEdit.ins, NaEdit.dup, NaEdit.invNum, NaEdit.inv}
+use Rattle.grammar.specs.ProteinEdits as P
+use Rattle.grammar.specs.ProteinEdits.{ProteinEdit, Terminal, Length, Length.counted, Length.unsaid, Stop, Stop.stop, ExtEnd, ExtEnd.nothing, ExtEnd.later, ExtEnd.earlier, printTerminal}
+use Rattle.grammar.specs.Bodies.{Ends, Location, NaBody, ProteinBody, ProteinBody.met1, ProteinBody.bracketedMet1, ProteinBody.noProteinUncertain, ProteinBody.noProtein, ProteinBody.noChangeUncertain, ProteinBody.noChange, ProteinBody.change, ProteinBody.bracketed, Body}
+use Rattle.grammar.specs.Bodies as B
+use Rattle.grammar.specs.Texts.{Text, Text.text}
+use Rattle.grammar.specs.Values.{ProtPosV, ProtPosV.protPosV, PositionV, EndsV, NaEditV, NaEditV.refAlt, NaEditV.numAlt, NaEditV.delRef, NaEditV.delNum, NaEditV.insV, NaEditV.dupV, NaEditV.invRef, NaEditV.invNum, ProteinEditV, ProteinEditV.fsV, ProteinEditV.extV, ProteinEditV.substV, ProteinEditV.delInsV, ProteinEditV.insPV, ProteinEditV.delV, ProteinEditV.dupPV, ProteinEditV.identV, NaBodyV, ProteinBodyV, ProteinBodyV.ordinary, ProteinBodyV.noChangeV, ProteinBodyV.noChangeUncertainV, ProteinBodyV.noProteinV, ProteinBodyV.noProteinUncertainV, ProteinBodyV.unknownV, ProteinBodyV.initiationUncertain, BodyV, HeaderV, HeaderV.headerV, Value, Value.value}
+
+-- the number that digits write with a sign; where it does not fit, which no record has, 0 stands for it
+abbrev pub number : Sign → List ℕ → ℤ
+number sign ds = saturated sign (val ds)
+
+-- ---- positions
+abbrev pub signOf : Mark → Sign
+signOf bare = Plain
+signOf plus = Plain
+signOf minus = Minus
+signOf star = Plain
+
+abbrev pub fromOf : Mark → CdsFrom
+fromOf bare = Start
+fromOf plus = Start
+fromOf minus = Start
+fromOf star = End
+
+-- `+0` is an offset of 0, which differs from no offset
+abbrev pub offsetOf : Offset → Declared.Offset
+offsetOf absent = Absent
+offsetOf (ahead ds) = By (number Plain ds)
+offsetOf (back ds) = By (number Minus ds)
+
+abbrev pub meaningCds : Based → CdsPos
+meaningCds (based m ds o) = record { base = number (signOf m) ds; offset = offsetOf o; «cds_from» = fromOf m }
+
+abbrev pub meaningTx : Based → TxPos
+meaningTx (based m ds o) = record { base = number (signOf m) ds; offset = offsetOf o }
+
+abbrev pub meaningRna : Based → RnaPos
+meaningRna (based m ds o) = record { base = number (signOf m) ds; offset = offsetOf o }
+
+abbrev pub meaningGenome : Genomic → GenomePos
+meaningGenome (known ds) = AtG (number Plain ds)
+meaningGenome unknown = UnknownG
+
+abbrev pub meaningMt : Genomic → MtPos
+meaningMt (known ds) = AtM (number Plain ds)
+meaningMt unknown = UnknownM
+
+abbrev pub meaningProt : Residual → ProtPosV
+meaningProt (residual r ds) = protPosV r (number Plain ds)
+
+abbrev pub meaningPosition : (k : Kind) → Position k → PositionV k
+meaningPosition Cds = meaningCds
+meaningPosition Genome = meaningGenome
+meaningPosition Mt = meaningMt
+meaningPosition Tx = meaningTx
+meaningPosition Prot = meaningProt
+meaningPosition Rna = meaningRna
+
+-- one position p reads as the pair p, p
+abbrev pub meaningInterval : {A C : Type 0} → (A → C) → Interval A → Both C C
+meaningInterval m (one a) = both (m a) (m a)
+meaningInterval m (two a b) = both (m a) (m b)
+
+abbrev pub mapMu : {A C : Type 0} → (A → C) → Mu A → Mu C
+mapMu m (certain a) = certain (m a)
+mapMu m (uncertain a) = uncertain (m a)
+
+abbrev pub mapBoth : {A B C D : Type 0} → (A → C) → (B → D) → Both A B → Both C D
+mapBoth m n (both a b) = both (m a) (n b)
+
+abbrev pub meaningEnds : (k : Kind) → Ends k → EndsV k
+meaningEnds k = meaningInterval (meaningPosition k)
+
+-- ---- nucleotide edits
+abbrev pub meaningNaEdit : NaEdit → NaEditV
+meaningNaEdit (equal seq) = refAlt seq seq
+meaningNaEdit (swap a b) = refAlt (a ∷ []) (b ∷ [])
+meaningNaEdit (delIns seq seq1) = refAlt seq seq1
+meaningNaEdit (delNumIns ds seq1) = numAlt (number Plain ds) seq1
+meaningNaEdit (delNum ds) = delNum (number Plain ds)
+meaningNaEdit (del seq) = delRef seq
+meaningNaEdit (ins seq1) = insV seq1
+meaningNaEdit (dup seq) = dupV seq
+meaningNaEdit (invNum ds) = invNum (number Plain ds)
+meaningNaEdit (inv seq) = invRef seq
+
+abbrev pub meaningNaBody : (k : Kind) → NaBody k → NaBodyV k
+meaningNaBody k = mapBoth (mapMu (meaningEnds k)) (mapMu meaningNaEdit)
+
+-- ---- protein edits
+abbrev pub lengthOf : Length → UncertainLengthChange
+lengthOf (counted ds) = Known (number Plain ds)
+lengthOf P.Length.unknown = Unknown
+lengthOf unsaid = None
+
+abbrev pub meaningFs : Option (List ℕ) → Option Stop → ProteinEditV
+meaningFs r none = fsV r none None
+meaningFs r (some (stop t n)) = fsV r (some (printTerminal t)) (lengthOf n)
+
+-- after `-` the change is the negative of the digits' number
+abbrev pub meaningExt : Option (List ℕ) → ExtEnd → ProteinEditV
+meaningExt r nothing = extV r none None
+meaningExt r (later (stop t n)) = extV r (some (printTerminal t)) (lengthOf n)
+meaningExt r (earlier q ds) = extV r q (Known (number Negated ds))
+
+abbrev pub meaningProteinEdit : ProteinEdit → ProteinEditV
+meaningProteinEdit (P.ProteinEdit.subst r) = substV r
+meaningProteinEdit P.ProteinEdit.substUnknown = substV (ascii "?")
+meaningProteinEdit P.ProteinEdit.equal = identV
+meaningProteinEdit P.ProteinEdit.del = delV
+meaningProteinEdit P.ProteinEdit.dup = dupPV
+meaningProteinEdit (P.ProteinEdit.ins rs) = insPV rs
+meaningProteinEdit (P.ProteinEdit.delIns rs) = delInsV rs
+meaningProteinEdit (P.ProteinEdit.fs r e) = meaningFs r e
+meaningProteinEdit (P.ProteinEdit.ext r e) = meaningExt r e
+
+abbrev pub bothUncertain : {A B : Type 0} → Both A B → Both (Mu A) (Mu B)
+bothUncertain (both a b) = both (uncertain a) (uncertain b)
+
+-- `(`location edit`)` gives both uncertain, as `(`location`)(`edit`)` does
+abbrev pub meaningProteinBody : ProteinBody → ProteinBodyV
+meaningProteinBody met1 = initiationUncertain
+meaningProteinBody bracketedMet1 = initiationUncertain
+meaningProteinBody noProteinUncertain = noProteinUncertainV
+meaningProteinBody noProtein = noProteinV
+meaningProteinBody noChangeUncertain = noChangeUncertainV
+meaningProteinBody noChange = noChangeV
+meaningProteinBody B.ProteinBody.unknown = unknownV
+meaningProteinBody (change b) = ordinary (mapBoth (mapMu (meaningEnds Prot)) (mapMu meaningProteinEdit) b)
+meaningProteinBody (bracketed b) = ordinary (bothUncertain (mapBoth (meaningEnds Prot) meaningProteinEdit b))
+
+abbrev pub meaningBody : (k : Kind) → Body k → BodyV k
+meaningBody Cds = meaningNaBody Cds
+meaningBody Genome = meaningNaBody Genome
+meaningBody Mt = meaningNaBody Mt
+meaningBody Tx = meaningNaBody Tx
+meaningBody Prot = meaningProteinBody
+meaningBody Rna = meaningNaBody Rna
+
+-- ---- the header, and the whole
+abbrev pub meaningHeader : Header → HeaderV
+meaningHeader (header a gene) = headerV (printAccession a) gene
+
+abbrev pub meaning : Text → Value
+meaning (text h k b) = value (meaningHeader h) k (meaningBody k b)

@@ -1,0 +1,132 @@
+-- The numbers of a text from left to right, each with the place of its first digit, and the leftmost that does not fit.
+use Prim.Native.Nat.{ℕ, _+_}
+use mathlib.Core.List.{List, [], _∷_, _++_}
+use mathlib.Core.Option.{Option, none, some}
+use mathlib.Core.Bool.{Bool, true, false, cond}
+use lib.ListN.{length}
+use Rattle.number.specs.declared.Sign.{Sign}
+use Rattle.number.specs.declared.Sign.the-variants.{Plain, Minus, Negated}
+use Rattle.number.specs.Digits.{val}
+use Rattle.number.specs.Reading.{fits}
+use Rattle.record.specs.declared.variant.Kind.{Kind}
+use Rattle.record.specs.declared.variant.Kind.the-variants.{Cds, Genome, Mt, Tx, Prot, Rna}
+use Rattle.grammar.specs.Header.{printHeader, printKind}
+use Rattle.grammar.specs.Positions.{Mark, Offset, Offset.absent, Offset.ahead, Offset.back, Based, Based.based, Genomic, Genomic.known, Genomic.unknown, Residual, Residual.residual, Position, printMark, printPosition}
+use Rattle.grammar.specs.Shapes.{Interval, Interval.one, Interval.two, Mu, Mu.certain, Mu.uncertain, Both, Both.both}
+use Rattle.grammar.specs.NucleotideEdits.{NaEdit, NaEdit.equal, NaEdit.swap, NaEdit.delIns, NaEdit.delNumIns, NaEdit.delNum, NaEdit.del, NaEdit.ins, NaEdit.dup, NaEdit.invNum, NaEdit.inv}
+use Rattle.grammar.specs.Optional.{printOptional}
+use Rattle.grammar.specs.ProteinEdits as P
+use Rattle.grammar.specs.ProteinEdits.{ProteinEdit, Length, Length.counted, Length.unsaid, Stop, Stop.stop, ExtEnd, ExtEnd.nothing, ExtEnd.later, ExtEnd.earlier, printTerminal}
+use Rattle.grammar.specs.Bodies.{Ends, Location, printEnds, printLocation, NaBody, ProteinBody, ProteinBody.met1, ProteinBody.bracketedMet1, ProteinBody.noProteinUncertain, ProteinBody.noProtein, ProteinBody.noChangeUncertain, ProteinBody.noChange, ProteinBody.unknown, ProteinBody.change, ProteinBody.bracketed, Body}
+use Rattle.grammar.specs.Texts.{Text, Text.text}
+use Rattle.grammar.specs.Meaning.{signOf}
+
+-- digits at a place, and with which sign they are read
+pub data Numeral : Type 0 where
+  numeral : (place : ℕ) → Sign → List ℕ → Numeral
+
+-- the place of the leftmost number that does not fit
+abbrev pub misfit : List Numeral → Option ℕ
+misfit [] = none
+misfit (numeral place sign ds ∷ ns) = cond (fits sign (val ds)) (misfit ns) (some place)
+
+-- ---- positions
+abbrev pub offsetNumbers : ℕ → Offset → List Numeral
+offsetNumbers k absent = []
+offsetNumbers k (ahead ds) = numeral (k + 1) Plain ds ∷ []
+offsetNumbers k (back ds) = numeral (k + 1) Minus ds ∷ []
+
+abbrev pub basedNumbers : ℕ → Based → List Numeral
+basedNumbers k (based m ds o) = numeral (k + length (printMark m)) (signOf m) ds ∷ offsetNumbers (k + length (printMark m) + length ds) o
+
+abbrev pub genomicNumbers : ℕ → Genomic → List Numeral
+genomicNumbers k (known ds) = numeral k Plain ds ∷ []
+genomicNumbers k unknown = []
+
+abbrev pub residualNumbers : ℕ → Residual → List Numeral
+residualNumbers k (residual r ds) = numeral (k + length r) Plain ds ∷ []
+
+abbrev pub positionNumbers : (kind : Kind) → ℕ → Position kind → List Numeral
+positionNumbers Cds = basedNumbers
+positionNumbers Genome = genomicNumbers
+positionNumbers Mt = genomicNumbers
+positionNumbers Tx = basedNumbers
+positionNumbers Prot = residualNumbers
+positionNumbers Rna = basedNumbers
+
+abbrev pub endsNumbers : (kind : Kind) → ℕ → Ends kind → List Numeral
+endsNumbers kind k (one p) = positionNumbers kind k p
+endsNumbers kind k (two p q) = positionNumbers kind k p ++ positionNumbers kind (k + length (printPosition kind p) + 1) q
+
+-- behind `(` where it is uncertain
+abbrev pub muNumbers : {A : Type 0} → (ℕ → A → List Numeral) → ℕ → Mu A → List Numeral
+muNumbers numbers k (certain a) = numbers k a
+muNumbers numbers k (uncertain a) = numbers (k + 1) a
+
+-- ---- nucleotide edits
+abbrev pub naEditNumbers : ℕ → NaEdit → List Numeral
+naEditNumbers k (equal seq) = []
+naEditNumbers k (swap a b) = []
+naEditNumbers k (delIns seq seq1) = []
+naEditNumbers k (delNumIns ds seq1) = numeral (k + 3) Plain ds ∷ []
+naEditNumbers k (delNum ds) = numeral (k + 3) Plain ds ∷ []
+naEditNumbers k (del seq) = []
+naEditNumbers k (ins seq1) = []
+naEditNumbers k (dup seq) = []
+naEditNumbers k (invNum ds) = numeral (k + 3) Plain ds ∷ []
+naEditNumbers k (inv seq) = []
+
+-- ---- protein edits
+abbrev pub lengthNumbers : ℕ → Length → List Numeral
+lengthNumbers k (counted ds) = numeral k Plain ds ∷ []
+lengthNumbers k P.Length.unknown = []
+lengthNumbers k unsaid = []
+
+abbrev pub stopNumbers : ℕ → Stop → List Numeral
+stopNumbers k (stop t n) = lengthNumbers (k + length (printTerminal t)) n
+
+abbrev pub fsNumbers : ℕ → Option Stop → List Numeral
+fsNumbers k none = []
+fsNumbers k (some e) = stopNumbers k e
+
+abbrev pub extNumbers : ℕ → ExtEnd → List Numeral
+extNumbers k nothing = []
+extNumbers k (later e) = stopNumbers k e
+extNumbers k (earlier r ds) = numeral (k + length (printOptional [] r) + 1) Negated ds ∷ []
+
+abbrev pub proteinEditNumbers : ℕ → ProteinEdit → List Numeral
+proteinEditNumbers k (P.ProteinEdit.subst r) = []
+proteinEditNumbers k P.ProteinEdit.substUnknown = []
+proteinEditNumbers k P.ProteinEdit.equal = []
+proteinEditNumbers k P.ProteinEdit.del = []
+proteinEditNumbers k P.ProteinEdit.dup = []
+proteinEditNumbers k (P.ProteinEdit.ins rs) = []
+proteinEditNumbers k (P.ProteinEdit.delIns rs) = []
+proteinEditNumbers k (P.ProteinEdit.fs r e) = fsNumbers (k + length (printOptional [] r) + 2) e
+proteinEditNumbers k (P.ProteinEdit.ext r e) = extNumbers (k + length (printOptional [] r) + 3) e
+
+-- ---- bodies, and the whole; the header's digits are no numbers
+abbrev pub naBodyNumbers : (kind : Kind) → ℕ → NaBody kind → List Numeral
+naBodyNumbers kind k (both l e) = muNumbers (endsNumbers kind) k l ++ muNumbers naEditNumbers (k + length (printLocation kind l)) e
+
+abbrev pub proteinBodyNumbers : ℕ → ProteinBody → List Numeral
+proteinBodyNumbers k met1 = []
+proteinBodyNumbers k bracketedMet1 = []
+proteinBodyNumbers k noProteinUncertain = []
+proteinBodyNumbers k noProtein = []
+proteinBodyNumbers k noChangeUncertain = []
+proteinBodyNumbers k noChange = []
+proteinBodyNumbers k unknown = []
+proteinBodyNumbers k (change (both l e)) = muNumbers (endsNumbers Prot) k l ++ muNumbers proteinEditNumbers (k + length (printLocation Prot l)) e
+proteinBodyNumbers k (bracketed (both i e)) = endsNumbers Prot (k + 1) i ++ proteinEditNumbers (k + 1 + length (printEnds Prot i)) e
+
+abbrev pub bodyNumbers : (kind : Kind) → ℕ → Body kind → List Numeral
+bodyNumbers Cds = naBodyNumbers Cds
+bodyNumbers Genome = naBodyNumbers Genome
+bodyNumbers Mt = naBodyNumbers Mt
+bodyNumbers Tx = naBodyNumbers Tx
+bodyNumbers Prot = proteinBodyNumbers
+bodyNumbers Rna = naBodyNumbers Rna
+
+abbrev pub numbersAt : ℕ → Text → List Numeral
+numbersAt k (text h kind b) = bodyNumbers kind (k + length (printHeader h) + length (printKind kind)) b

@@ -1,0 +1,212 @@
+-- The record that a tree gives: spans where its parts stand, in a text in which the tree starts at a place.
+use Prim.Native.Nat.{ℕ, _+_}
+use mathlib.Core.List.{List, [], _∷_, _++_}
+use mathlib.Core.Option.{Option, none, some}
+use lib.IntN.{ℤ}
+use lib.ListN.{length}
+use Rattle.number.specs.declared.Sign.the-variants.{Plain, Negated}
+use Rattle.record.specs.declared.spans.Span.{Span}
+use Rattle.record.specs.declared.spans.Part.{Part}
+use Rattle.record.specs.declared.spans.Part.the-variants.{Absent, Present}
+use Rattle.record.specs.declared.variant.Kind.{Kind}
+use Rattle.record.specs.declared.variant.Kind.the-variants.{Cds, Genome, Mt, Tx, Prot, Rna}
+use Rattle.record.specs.declared.positions.CdsPos.{CdsPos}
+use Rattle.record.specs.declared.positions.GenomePos.{GenomePos}
+use Rattle.record.specs.declared.positions.MtPos.{MtPos}
+use Rattle.record.specs.declared.positions.TxPos.{TxPos}
+use Rattle.record.specs.declared.positions.RnaPos.{RnaPos}
+use Rattle.record.specs.declared.positions.ProtPos.{ProtPos}
+use Rattle.record.specs.declared.positions.CdsInterval.{CdsInterval}
+use Rattle.record.specs.declared.positions.GenomeInterval.{GenomeInterval}
+use Rattle.record.specs.declared.positions.MtInterval.{MtInterval}
+use Rattle.record.specs.declared.positions.TxInterval.{TxInterval}
+use Rattle.record.specs.declared.positions.RnaInterval.{RnaInterval}
+use Rattle.record.specs.declared.positions.ProtInterval.{ProtInterval}
+use Rattle.record.specs.declared.positions.MuCdsInterval.{MuCdsInterval}
+use Rattle.record.specs.declared.positions.MuGenomeInterval.{MuGenomeInterval}
+use Rattle.record.specs.declared.positions.MuMtInterval.{MuMtInterval}
+use Rattle.record.specs.declared.positions.MuTxInterval.{MuTxInterval}
+use Rattle.record.specs.declared.positions.MuRnaInterval.{MuRnaInterval}
+use Rattle.record.specs.declared.positions.MuProtInterval.{MuProtInterval}
+use Rattle.record.specs.declared.positions.MuCdsInterval.the-variants as MuCds
+use Rattle.record.specs.declared.positions.MuGenomeInterval.the-variants as MuGenome
+use Rattle.record.specs.declared.positions.MuMtInterval.the-variants as MuMt
+use Rattle.record.specs.declared.positions.MuTxInterval.the-variants as MuTx
+use Rattle.record.specs.declared.positions.MuRnaInterval.the-variants as MuRna
+use Rattle.record.specs.declared.positions.MuProtInterval.the-variants as MuProt
+use Rattle.record.specs.declared.edits.NaEdit as D
+use Rattle.record.specs.declared.edits.NaEdit.the-variants as Na
+use Rattle.record.specs.declared.edits.MuNaEdit.{MuNaEdit}
+use Rattle.record.specs.declared.edits.MuNaEdit.the-variants as MuNa
+use Rattle.record.specs.declared.edits.UncertainLengthChange.the-variants.{None, Known}
+use Rattle.record.specs.declared.edits.ProteinEdit as DP
+use Rattle.record.specs.declared.edits.ProteinEdit.the-variants as Pr
+use Rattle.record.specs.declared.edits.MuProteinEdit.{MuProteinEdit}
+use Rattle.record.specs.declared.edits.MuProteinEdit.the-variants as MuPr
+use Rattle.record.specs.declared.variant.ProtLocEdit.{ProtLocEdit}
+use Rattle.record.specs.declared.variant.ProtLocEdit.the-variants.{Ordinary, NoChange, NoChangeUncertain, NoProtein, NoProteinUncertain, Unknown, InitiationUncertain}
+use Rattle.record.specs.declared.variant.Header as DH
+use Rattle.record.specs.declared.variant.Body as DB
+use Rattle.record.specs.declared.variant.Body.the-variants as Bo
+use Rattle.record.specs.declared.variant.HgvsVariant.{HgvsVariant}
+use Rattle.grammar.specs.Header.{Header, Header.header, printAccession, printHeader, printKind}
+use Rattle.grammar.specs.Positions.{Residual, Residual.residual, Position, printPosition}
+use Rattle.grammar.specs.Shapes.{Interval, Interval.one, Interval.two, Mu, Mu.certain, Mu.uncertain, Both, Both.both}
+use Rattle.grammar.specs.NucleotideEdits.{NaEdit, NaEdit.equal, NaEdit.swap, NaEdit.delIns, NaEdit.delNumIns, NaEdit.delNum, NaEdit.del, NaEdit.ins, NaEdit.dup, NaEdit.invNum, NaEdit.inv}
+use Rattle.grammar.specs.Optional.{printOptional}
+use Rattle.grammar.specs.ProteinEdits as P
+use Rattle.grammar.specs.ProteinEdits.{ProteinEdit, Stop, Stop.stop, ExtEnd, ExtEnd.nothing, ExtEnd.later, ExtEnd.earlier, printTerminal}
+use Rattle.grammar.specs.Bodies.{Ends, Location, printEnds, printLocation, NaBody, ProteinBody, ProteinBody.met1, ProteinBody.bracketedMet1, ProteinBody.noProteinUncertain, ProteinBody.noProtein, ProteinBody.noChangeUncertain, ProteinBody.noChange, ProteinBody.unknown, ProteinBody.change, ProteinBody.bracketed, Body}
+use Rattle.grammar.specs.Texts.{Text, Text.text}
+use Rattle.grammar.specs.Meaning.{number, meaningCds, meaningGenome, meaningMt, meaningTx, meaningRna, lengthOf}
+
+-- n bytes from k on
+abbrev pub span : ℕ → ℕ → Span
+span k n = record { start = k; end = k + n }
+
+-- the span of s, which starts at k
+abbrev pub spanOf : ℕ → List ℕ → Span
+spanOf k s = span k (length s)
+
+abbrev pub partOf : ℕ → Option (List ℕ) → Part
+partOf k none = Absent
+partOf k (some s) = Present (spanOf k s)
+
+-- ---- positions
+abbrev pub PositionR : Kind → Type 0
+PositionR Cds = CdsPos
+PositionR Genome = GenomePos
+PositionR Mt = MtPos
+PositionR Tx = TxPos
+PositionR Prot = ProtPos
+PositionR Rna = RnaPos
+
+abbrev pub protAt : ℕ → Residual → ProtPos
+protAt k (residual r ds) = record { aa = spanOf k r; number = number Plain ds }
+
+abbrev pub positionAt : (kind : Kind) → ℕ → Position kind → PositionR kind
+positionAt Cds k = meaningCds
+positionAt Genome k = meaningGenome
+positionAt Mt k = meaningMt
+positionAt Tx k = meaningTx
+positionAt Prot k = protAt k
+positionAt Rna k = meaningRna
+
+abbrev pub IntervalR : Kind → Type 0
+IntervalR Cds = CdsInterval
+IntervalR Genome = GenomeInterval
+IntervalR Mt = MtInterval
+IntervalR Tx = TxInterval
+IntervalR Prot = ProtInterval
+IntervalR Rna = RnaInterval
+
+abbrev pub interval : (kind : Kind) → PositionR kind → PositionR kind → IntervalR kind
+interval Cds a b = record { start = a; end = b }
+interval Genome a b = record { start = a; end = b }
+interval Mt a b = record { start = a; end = b }
+interval Tx a b = record { start = a; end = b }
+interval Prot a b = record { start = a; end = b }
+interval Rna a b = record { start = a; end = b }
+
+abbrev pub intervalAt : (kind : Kind) → ℕ → Ends kind → IntervalR kind
+intervalAt kind k (one p) = interval kind (positionAt kind k p) (positionAt kind k p)
+intervalAt kind k (two p q) = interval kind (positionAt kind k p) (positionAt kind (k + length (printPosition kind p) + 1) q)
+
+abbrev pub MuIntervalR : Kind → Type 0
+MuIntervalR Cds = MuCdsInterval
+MuIntervalR Genome = MuGenomeInterval
+MuIntervalR Mt = MuMtInterval
+MuIntervalR Tx = MuTxInterval
+MuIntervalR Prot = MuProtInterval
+MuIntervalR Rna = MuRnaInterval
+
+abbrev pub certainly : (kind : Kind) → IntervalR kind → MuIntervalR kind
+certainly Cds = MuCds.Certain
+certainly Genome = MuGenome.Certain
+certainly Mt = MuMt.Certain
+certainly Tx = MuTx.Certain
+certainly Prot = MuProt.Certain
+certainly Rna = MuRna.Certain
+
+abbrev pub uncertainly : (kind : Kind) → IntervalR kind → MuIntervalR kind
+uncertainly Cds = MuCds.Uncertain
+uncertainly Genome = MuGenome.Uncertain
+uncertainly Mt = MuMt.Uncertain
+uncertainly Tx = MuTx.Uncertain
+uncertainly Prot = MuProt.Uncertain
+uncertainly Rna = MuRna.Uncertain
+
+-- behind `(` where it is uncertain
+abbrev pub locationAt : (kind : Kind) → ℕ → Location kind → MuIntervalR kind
+locationAt kind k (certain i) = certainly kind (intervalAt kind k i)
+locationAt kind k (uncertain i) = uncertainly kind (intervalAt kind (k + 1) i)
+
+-- ---- nucleotide edits
+abbrev pub naEditAt : ℕ → NaEdit → D.NaEdit
+naEditAt k (equal seq) = Na.RefAlt (spanOf k seq) (spanOf k seq)
+naEditAt k (swap a b) = Na.RefAlt (span k 1) (span (k + 2) 1)
+naEditAt k (delIns seq seq1) = Na.RefAlt (spanOf (k + 3) seq) (spanOf (k + 3 + length seq + 3) seq1)
+naEditAt k (delNumIns ds seq1) = Na.NumAlt (number Plain ds) (spanOf (k + 3 + length ds + 3) seq1)
+naEditAt k (delNum ds) = Na.DelNum (number Plain ds)
+naEditAt k (del seq) = Na.DelRef (spanOf (k + 3) seq)
+naEditAt k (ins seq1) = Na.Ins (spanOf (k + 3) seq1)
+naEditAt k (dup seq) = Na.Dup (spanOf (k + 3) seq)
+naEditAt k (invNum ds) = Na.InvNum (number Plain ds)
+naEditAt k (inv seq) = Na.InvRef (spanOf (k + 3) seq)
+
+abbrev pub muNaEditAt : ℕ → Mu NaEdit → MuNaEdit
+muNaEditAt k (certain e) = MuNa.Certain (naEditAt k e)
+muNaEditAt k (uncertain e) = MuNa.Uncertain (naEditAt (k + 1) e)
+
+-- ---- protein edits: k is where the word `fs` or `ext` starts, or what is behind it
+abbrev pub fsAt : Part → ℕ → Option Stop → DP.ProteinEdit
+fsAt r k none = Pr.Fs r Absent None
+fsAt r k (some (stop t n)) = Pr.Fs r (Present (spanOf (k + 2) (printTerminal t))) (lengthOf n)
+
+abbrev pub extAt : Part → ℕ → ExtEnd → DP.ProteinEdit
+extAt r k nothing = Pr.Ext r Absent None
+extAt r k (later (stop t n)) = Pr.Ext r (Present (spanOf (k + 3) (printTerminal t))) (lengthOf n)
+extAt r k (earlier q ds) = Pr.Ext r (partOf (k + 3) q) (Known (number Negated ds))
+
+abbrev pub proteinEditAt : ℕ → ProteinEdit → DP.ProteinEdit
+proteinEditAt k (P.ProteinEdit.subst r) = Pr.Subst (spanOf k r)
+proteinEditAt k P.ProteinEdit.substUnknown = Pr.Subst (span k 1)
+proteinEditAt k P.ProteinEdit.equal = Pr.Ident
+proteinEditAt k P.ProteinEdit.del = Pr.Del
+proteinEditAt k P.ProteinEdit.dup = Pr.Dup
+proteinEditAt k (P.ProteinEdit.ins rs) = Pr.Ins (spanOf (k + 3) rs)
+proteinEditAt k (P.ProteinEdit.delIns rs) = Pr.DelIns (spanOf (k + 6) rs)
+proteinEditAt k (P.ProteinEdit.fs r e) = fsAt (partOf k r) (k + length (printOptional [] r)) e
+proteinEditAt k (P.ProteinEdit.ext r e) = extAt (partOf k r) (k + length (printOptional [] r)) e
+
+abbrev pub muProteinEditAt : ℕ → Mu ProteinEdit → MuProteinEdit
+muProteinEditAt k (certain e) = MuPr.Certain (proteinEditAt k e)
+muProteinEditAt k (uncertain e) = MuPr.Uncertain (proteinEditAt (k + 1) e)
+
+-- ---- bodies
+abbrev pub proteinBodyAt : ℕ → ProteinBody → ProtLocEdit
+proteinBodyAt k met1 = InitiationUncertain
+proteinBodyAt k bracketedMet1 = InitiationUncertain
+proteinBodyAt k noProteinUncertain = NoProteinUncertain
+proteinBodyAt k noProtein = NoProtein
+proteinBodyAt k noChangeUncertain = NoChangeUncertain
+proteinBodyAt k noChange = NoChange
+proteinBodyAt k unknown = Unknown
+proteinBodyAt k (change (both l e)) = Ordinary (locationAt Prot k l) (muProteinEditAt (k + length (printLocation Prot l)) e)
+proteinBodyAt k (bracketed (both i e)) =
+    Ordinary (uncertainly Prot (intervalAt Prot (k + 1) i)) (MuPr.Uncertain (proteinEditAt (k + 1 + length (printEnds Prot i)) e))
+
+abbrev pub bodyAt : (kind : Kind) → ℕ → Body kind → DB.Body
+bodyAt Cds k (both l e) = Bo.Cds (record { loc = locationAt Cds k l; edit = muNaEditAt (k + length (printLocation Cds l)) e })
+bodyAt Genome k (both l e) = Bo.Genome (record { loc = locationAt Genome k l; edit = muNaEditAt (k + length (printLocation Genome l)) e })
+bodyAt Mt k (both l e) = Bo.Mt (record { loc = locationAt Mt k l; edit = muNaEditAt (k + length (printLocation Mt l)) e })
+bodyAt Tx k (both l e) = Bo.Tx (record { loc = locationAt Tx k l; edit = muNaEditAt (k + length (printLocation Tx l)) e })
+bodyAt Prot k b = Bo.Prot (proteinBodyAt k b)
+bodyAt Rna k (both l e) = Bo.Rna (record { loc = locationAt Rna k l; edit = muNaEditAt (k + length (printLocation Rna l)) e })
+
+-- ---- the header, and the whole
+abbrev pub headerAt : ℕ → Header → DH.Header
+headerAt k (header a gene) = record { accession = spanOf k (printAccession a); «gene_symbol» = partOf (k + length (printAccession a) + 1) gene }
+
+abbrev pub recordAt : ℕ → Text → HgvsVariant
+recordAt k (text h kind b) = record { header = headerAt k h; body = bodyAt kind (k + length (printHeader h) + length (printKind kind)) b }

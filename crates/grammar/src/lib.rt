@@ -1,0 +1,1 @@
+// Document 01's language, as definitions and laws.

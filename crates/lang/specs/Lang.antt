@@ -1,0 +1,46 @@
+-- A language: trees with a printer, which are well formed, what may follow, and a parser of the front of a text that is sound and complete for them.
+use Prim.Native.Nat.{ℕ, _≤_}
+use mathlib.Core.Path.{_≡_, refl, sym, ap, _∙_}
+use mathlib.Core.List.{List, [], _∷_, _++_, append-nil}
+use mathlib.Core.Option.{Option, none, some}
+use native.Mathlib.Omega.{arith}
+use lib.ListN.{length, drop, length-append}
+use lib.Seq.{drop-at}
+
+-- t's text stands at the front of s
+pub record Front {Tree : Type 0} (print : Tree → List ℕ) (Wf : Tree → Type 0) (s : List ℕ) (t : Tree) : Type 0 where
+  pub wf : Wf t
+  pub after : List ℕ
+  pub text : print t ++ after ≡ s
+
+pub record Lang : Type 1 where
+  pub Tree : Type 0
+  pub print : Tree → List ℕ
+  pub Wf : Tree → Type 0
+  pub Stop : List ℕ → Type 0
+  pub parse : List ℕ → Option Tree
+  pub complete : (t : Tree) (r : List ℕ) → Wf t → Stop r → parse (print t ++ r) ≡ some t
+  pub sound : (s : List ℕ) (t : Tree) → parse s ≡ some t → Front print Wf s t
+
+-- what every language has
+module _ (L : Lang) where
+  -- what is behind the tree
+  pub rest-is : (s : List ℕ) (t : L .Tree) (e : L .parse s ≡ some t) → drop (length (L .print t)) s ≡ L .sound s t e .after
+  rest-is s t e =
+      let f = L .sound s t e in
+      ap (drop (length (L .print t))) (sym (f .text)) ∙ drop-at (L .print t) (f .after) (length (L .print t)) refl
+
+  pub within : (s : List ℕ) (t : L .Tree) → L .parse s ≡ some t → length (L .print t) ≤ length s
+  within s t e = let f = L .sound s t e in omega (arith, ap length (f .text), length-append (L .print t) (f .after))
+
+  -- a text that is a tree's alone
+  module _ (end : L .Stop []) where
+    pub parse-print : (t : L .Tree) → L .Wf t → L .parse (L .print t) ≡ some t
+    parse-print t w = rw append-nil at (L .complete t [] w end)
+
+    -- two well-formed trees with one text are one
+    pub unambiguous : (t u : L .Tree) → L .Wf t → L .Wf u → L .print t ≡ L .print u → t ≡ u
+    unambiguous t u wt wu e =
+        let a = parse-print t wt in
+        let b = parse-print u wu in
+        cc

@@ -1,0 +1,60 @@
+-- Laws behind the loops.
+use Prim.Native.Nat.{ℕ, _+_, _-_, _*_, _/_, _%_, _≤_, _<_, min}
+use Prim.Native.Char.{code}
+use mathlib.Core.Path.{_≡_, refl, sym, _∙_}
+use mathlib.Core.List.{List, [], _∷_}
+use mathlib.Core.Bool.{Bool, true, false}
+use native.Mathlib.Omega.{arith}
+use native.Mathlib.Numerals.{add-one}
+use lib.Dec.{leb}
+use lib.ListN.{length, set, getD, take}
+use lib.Seq.{take-suc}
+use borrow.Author.Tests.{leb-true, leb-false}
+use Rattle.texts.specs.Runs.{run, front}
+use Rattle.alphabet.specs.Letters.{digit}
+use Rattle.lent.specs.Put.{put, put-byte, put-before}
+use Rattle.number.specs.Digits.{val, dec}
+use Rattle.number.specs.Values.{val-append, val-one}
+use Rattle.number.specs.Decimals.{dec-one, dec-more, dec-one-length, dec-more-length}
+use Rattle.number.specs.Reading.{most, tooLarge, numberOf, numberAt}
+use Rattle.number.specs.Signs.{most-bound}
+use Rattle.number.specs.Numbers.{number-misfit}
+use Rattle.number.specs.declared.Sign.{Sign}
+
+-- ---- a value that is too large may count as another
+pub number-capped : (n : ℕ) (sign : Sign) (v : ℕ) → numberOf n sign (min v tooLarge) ≡ numberOf n sign v
+number-capped n sign v = go (leb v (most sign)) refl
+  where
+    go : (t : Bool) → leb v (most sign) ≡ t → numberOf n sign (min v tooLarge) ≡ numberOf n sign v
+    go true e =
+        let k : min v tooLarge ≡ v = omega (arith, most-bound sign v (leb-true _ _ e)) in
+        rw k
+    go false e =
+        let h : most sign < v = leb-false _ _ e in
+        let k : most sign < min v tooLarge = omega (arith, most-bound sign (most sign) (omega arith)) in
+        sym (number-misfit n sign (min v tooLarge) k) ∙ number-misfit n sign v h
+
+-- ---- one digit more
+pub value-more : (s : List ℕ) (i v : ℕ) → i < length s → v ≡ min (val (take i s)) tooLarge
+    → min (10 * v + (getD s i 0 - code "0")) tooLarge ≡ min (val (take (i + 1) s)) tooLarge
+value-more s i v h e =
+    let d : val (take (i + 1) s) ≡ 10 * val (take i s) + (getD s i 0 - code "0") = rw (add-one, take-suc s i 0 h) (val-append 0 (take i s) (getD s i 0 ∷ []) ∙ val-one (val (take i s)) (getD s i 0)) in
+    omega arith
+
+-- ---- all digits
+pub value-all : (sign : Sign) (s : List ℕ) (i v : ℕ) → run digit s ≡ i → v ≡ min (val (take i s)) tooLarge → numberOf i sign v ≡ numberAt sign s
+unfolding numberAt front
+value-all sign s i v r e = rw (r, e) (number-capped i sign (val (take i s)))
+
+-- ---- a decimal text whose last digit is written first
+module _ (o : List ℕ) (at w i : ℕ) (inside : i < length o) (last : i + 1 ≡ at + length (dec w)) where
+  pub last-digit : 10 ≤ w → put (set o i (code "0" + w % 10)) at (dec (w / 10)) ≡ put o at (dec w)
+  last-digit h =
+      let k : i ≡ at + length (dec (w / 10)) = omega (arith, dec-more-length w h) in
+      let room : at + length (dec (w / 10)) ≤ length o = omega arith in
+      rw (sym (put-byte o i (code "0" + w % 10) inside), k, dec-more w h) (put-before o at (dec (w / 10)) ((code "0" + w % 10) ∷ []) room)
+
+  pub only-digit : w < 10 → set o i (code "0" + w) ≡ put o at (dec w)
+  only-digit h =
+      let k : i ≡ at = omega (arith, dec-one-length w h) in
+      rw (dec-one w h, sym k) (sym (put-byte o i (code "0" + w) inside))

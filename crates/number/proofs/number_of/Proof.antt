@@ -1,0 +1,26 @@
+use borrow.Author.Needs.{needs, sfits-of}
+use mir.Facts.{toZ-ofZ}
+use Rattle.number.specs.Numbers.{number-fit, number-misfit}
+use Rattle.number.proofs.number_of.Statement.{statement}
+use Rattle.number.proofs.number_of.Tie as tie
+
+limit-requires : tie.Need-limit-requires
+limit-requires c κs = search needs
+
+with-sign-requires : tie.Need-with-sign-requires
+with-sign-requires c κs = search needs
+
+returns : tie.Need-returns
+returns c =
+    let l = c .before .before in
+    let a = l .before .args in
+    rw (toZ-ofZ (sfits-of (c .with-sign .ok)), c .with-sign .ensures) (number-fit (a .len) (a .sign) (a .v) (rw (l .limit .ensures) at (c .before .if1 .taken)))
+
+returns-2 : tie.Need-returns-2
+returns-2 c =
+    let l = c .before in
+    let a = l .before .args in
+    number-misfit (a .len) (a .sign) (a .v) (rw (l .limit .ensures) at (c .if1 .left))
+
+pub number-of-spec : {M : Type 1} → statement M
+number-of-spec = tie.close (tie.spec limit-requires with-sign-requires returns returns-2)

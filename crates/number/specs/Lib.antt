@@ -1,0 +1,6 @@
+pub mod Digits
+pub mod Reading
+pub mod Values
+pub mod Decimals
+pub mod Signs
+pub mod Numbers

@@ -1,0 +1,42 @@
+-- What the digits at the front of a text are, with the sign that stood before them.
+use Prim.Native.Nat.{ℕ}
+use mathlib.Core.List.{List}
+use mathlib.Core.Bool.{Bool, cond}
+use lib.Dec.{leb}
+use lib.IntN.{ℤ, pos, negℤ}
+use Rattle.texts.specs.Runs.{run, front}
+use Rattle.alphabet.specs.Letters.{digit}
+use Rattle.number.specs.Digits.{val}
+use Rattle.number.specs.declared.Sign.{Sign}
+use Rattle.number.specs.declared.Sign.the-variants.{Plain, Minus, Negated}
+use Rattle.number.specs.declared.Number.{Number}
+
+-- the number that digits of the value v are with a sign
+abbrev pub signed : Sign → ℕ → ℤ
+signed Plain v = pos v
+signed Minus v = negℤ (pos v)
+signed Negated v = negℤ (pos v)
+
+-- the largest value of the digits with which it fits
+abbrev pub most : Sign → ℕ
+most Plain = 2147483647
+most Minus = 2147483648
+most Negated = 2147483647
+
+abbrev pub fits : Sign → ℕ → Bool
+fits sign v = leb v (most sign)
+
+-- the number where it fits, and else 0
+unfoldable pub saturated : Sign → ℕ → ℤ
+saturated sign v = cond (fits sign v) (signed sign v) (pos 0)
+
+-- n digits of the value v
+unfoldable pub numberOf : ℕ → Sign → ℕ → Number
+numberOf n sign v = record { len = n; value = saturated sign v; fits = fits sign v }
+
+unfoldable pub numberAt : Sign → List ℕ → Number
+numberAt sign s = numberOf (run digit s) sign (val (front digit s))
+
+-- a value with which no number fits: the program counts no further
+abbrev pub tooLarge : ℕ
+tooLarge = 2147483649

@@ -1,0 +1,16 @@
+-- `scan::faults_of` meets its contract.
+use borrow.Author.Needs.{needs}
+use Rattle.scan.proofs.faults_of.Statement.{statement}
+use Rattle.scan.proofs.faults_of.Tie as tie
+
+no-faults-requires : tie.Need-no-faults-requires
+no-faults-requires c κs = search needs
+
+returns : tie.Need-returns
+returns c = search needs
+
+returns-2 : tie.Need-returns-2
+returns-2 c = rw (c .if1 .left)
+
+pub faults-of-spec : {M : Type 1} → statement M
+faults-of-spec = tie.close (tie.spec no-faults-requires returns returns-2)
