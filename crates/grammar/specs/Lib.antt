@@ -12,6 +12,7 @@ pub mod Reads
 pub mod Spans
 pub mod Records
 pub mod Numbers
+pub mod NumberLaws
 pub mod Contents
 pub mod Standing
 pub mod ContentLaw

@@ -1,5 +1,7 @@
 pub mod Lang
+pub mod Whole
 pub mod MuLang
+pub mod MuReading
 pub mod BothLang
 pub mod IntervalLang
 pub mod Canon

@@ -4,3 +4,4 @@ pub mod Values
 pub mod Decimals
 pub mod Signs
 pub mod Numbers
+pub mod Written

@@ -1,0 +1,5 @@
+pub mod NaBodies
+pub mod ProteinBodies
+pub mod ProteinSound
+pub mod BodyLang
+pub mod WholeText

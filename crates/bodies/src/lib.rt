@@ -1,0 +1,1 @@
+// Bodies and whole texts as languages.

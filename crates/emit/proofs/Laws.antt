@@ -1,0 +1,53 @@
+-- Laws behind the proofs.
+use Prim.Native.Nat.{ℕ, _+_, _≤_}
+use Prim.Native.Char.{code}
+use mathlib.Core.Path.{_≡_, refl, _∙_}
+use mathlib.Core.List.{List, [], _∷_, _++_}
+use native.Mathlib.Omega.{arith}
+use lib.ListN.{length, length-append}
+use Rattle.record.specs.declared.spans.Span.{Span}
+use Rattle.record.specs.declared.variant.Kind.{Kind}
+use Rattle.record.specs.declared.variant.Kind.the-variants.{Cds, Genome, Mt, Tx, Prot, Rna}
+use Rattle.lent.specs.Put.{put, put-put}
+use Rattle.grammar.specs.Spans.{part}
+use Rattle.grammar.specs.Header.{printKind}
+use Rattle.emit.specs.Words.{wordText, words, startOf}
+use Rattle.emit.specs.Texts.{kindLetter}
+use Rattle.emit.specs.declared.Word.{Word}
+use Rattle.emit.specs.declared.Word.the-variants.{Empty, Del, Ins, DelIns, Dup, Inv, Fs, Ext, Equal, Greater, Question, Met1, NoProtein, NoProteinUncertain, NoChangeUncertain}
+
+-- two texts, one behind the other, into lent room
+pub then : (o : List ℕ) (at : ℕ) (a b : List ℕ) {u v : List ℕ} {k r : ℕ} → at + length a ≤ length o
+    → (k ≡ at + length a) × (u ≡ put o at a) → (r ≡ k + length b) × (v ≡ put u k b)
+    → (r ≡ at + length (a ++ b)) × (v ≡ put o at (a ++ b))
+then o at a b room first next =
+    (omega (arith, length-append a b, first .0, next .0), next .1 ∙ rw (first .1, first .0) (put-put o at a b room))
+
+word-stands : (w : Word) → part words (record { start = startOf w; end = startOf w + length (wordText w) }) ≡ wordText w
+unfolding part
+word-stands Empty = refl
+word-stands Del = refl
+word-stands Ins = refl
+word-stands DelIns = refl
+word-stands Dup = refl
+word-stands Inv = refl
+word-stands Fs = refl
+word-stands Ext = refl
+word-stands Equal = refl
+word-stands Greater = refl
+word-stands Question = refl
+word-stands Met1 = refl
+word-stands NoProtein = refl
+word-stands NoProteinUncertain = refl
+word-stands NoChangeUncertain = refl
+
+pub word-part : (w : Word) (k n : ℕ) → k ≡ startOf w → n ≡ length (wordText w) → part words (record { start = k; end = k + n }) ≡ wordText w
+word-part w k n e f = rw (e, f) (word-stands w)
+
+pub kind-text : (k : Kind) → code ":" ∷ (kindLetter k ∷ (code "." ∷ [])) ≡ printKind k
+kind-text Cds = refl
+kind-text Genome = refl
+kind-text Mt = refl
+kind-text Tx = refl
+kind-text Prot = refl
+kind-text Rna = refl

@@ -1,0 +1,113 @@
+// Lines of an input that comes in pieces: a piece is taken up to the end of a line, and a lent buffer holds the line so far.
+ghost use mathlib.Core.Path.{_≡_};
+ghost use mathlib.Core.Bool.{_||_};
+ghost use Prim.Native.Nat.{_-_, min};
+ghost use lib.Dec.{ltb};
+ghost use lib.ListN.{length, take as firstOf};
+ghost use Rattle.texts.specs.Runs.{run};
+ghost use Rattle.lent.specs.Put.{put};
+ghost use Rattle.lines.specs.Taking.{inLine, noLine, begun, taken, stored};
+
+const LINE_END: u8 = b'\n';
+
+// The line so far: how many bytes of it the buffer holds, and whether it has more than fit.
+pub struct Line {
+    pub len: usize,
+    pub long: bool,
+}
+
+// How many bytes of a piece were used, LF included; whether a line is complete with them; and the line.
+pub struct Taken {
+    pub used: usize,
+    pub complete: bool,
+    pub line: Line,
+}
+
+// Where a program stands in a piece: how many bytes of it are used, the line so far, and where in its room the next answer goes.
+pub struct Progress {
+    pub used: usize,
+    pub line: Line,
+    pub at: usize,
+}
+
+fn already_or_less(already: bool, a: usize, b: usize) -> bool
+    ensures { λ r. ⌜ r ≡ already || ltb a b ⌝ }
+{
+    if already {
+        return true;
+    }
+    a < b
+}
+
+pub fn no_line() -> Line
+    ensures { λ r. ⌜ r ≡ noLine ⌝ }
+{
+    Line {
+        len: 0,
+        long: false,
+    }
+}
+
+// Whether a line without LF counts at the end of the input: it has a byte.
+pub fn at_end(line: Line) -> bool
+    ensures { λ r. ⌜ r ≡ begun line ⌝ }
+{
+    already_or_less(line.long, 0, line.len)
+}
+
+// How many bytes stand before the first LF.
+fn before_end(piece: &[u8]) -> usize
+    ensures { λ r. ⌜ r ≡ run inLine (now (piece .entry)) ⌝ }
+{
+    let mut i: usize = 0;
+    while i < piece.len() {
+        if piece[i] == LINE_END {
+            return i;
+        }
+        i += 1;
+    }
+    i
+}
+
+fn least(a: usize, b: usize) -> usize
+    ensures { λ r. ⌜ r ≡ min a b ⌝ }
+{
+    if a <= b { a } else { b }
+}
+
+// Writes as many bytes of a text as fit from `at` on, and says how many.
+fn store(buffer: &mut [u8], at: usize, text: &[u8]) -> usize
+    ensures { λ r. ⌜ (r ≡ min (length (now (text .entry))) (length (now (buffer .entry)) - at)) × (now (buffer .exit) ≡ put (now (buffer .entry)) at (firstOf r (now (text .entry)))) ⌝ }
+{
+    if buffer.len() <= at {
+        return 0;
+    }
+    let n = least(text.len(), buffer.len() - at);
+    lent::put_bytes(buffer, at, &text[..n]);
+    n
+}
+
+// Takes the bytes of a piece up to the end of the line, or all of them.
+pub fn take(piece: &[u8], buffer: &mut [u8], line: Line) -> Taken
+    ensures { λ r. ⌜ (r ≡ taken (length (now (buffer .entry))) line (now (piece .entry))) × (now (buffer .exit) ≡ stored (now (buffer .entry)) line (now (piece .entry))) ⌝ }
+{
+    let n = before_end(piece);
+    let len = line.len;
+    let fitting = store(buffer, len, &piece[..n]);
+    let next = Line {
+        len: len + fitting,
+        long: already_or_less(line.long, fitting, n),
+    };
+    if n < piece.len() {
+        return Taken {
+            used: n + 1,
+            complete: true,
+            line: next,
+        };
+    }
+    Taken {
+        used: n,
+        complete: false,
+        line: next,
+    }
+}

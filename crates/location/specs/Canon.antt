@@ -1,0 +1,64 @@
+-- The position whose text is to be written for a value, where there is one.
+use Prim.Native.Nat.{ℕ, suc}
+use mathlib.Core.List.{List}
+use mathlib.Core.Option.{Option, none, some}
+use mathlib.Core.Bool.{cond}
+use lib.IntN.{ℤ, pos, negsuc}
+use Rattle.number.specs.declared.Sign.{Sign}
+use Rattle.number.specs.declared.Sign.the-variants.{Plain, Minus}
+use Rattle.number.specs.Digits.{dec}
+use Rattle.number.specs.Reading.{fits}
+use Rattle.residue.specs.Residues.{isResidue}
+use Rattle.record.specs.declared.variant.Kind.{Kind}
+use Rattle.record.specs.declared.variant.Kind.the-variants.{Cds, Genome, Mt, Tx, Prot, Rna}
+use Rattle.record.specs.declared.positions.Offset as Declared
+use Rattle.record.specs.declared.positions.Offset.the-variants.{Absent, By}
+use Rattle.record.specs.declared.positions.CdsFrom.{CdsFrom}
+use Rattle.record.specs.declared.positions.CdsFrom.the-variants.{Start, End}
+use Rattle.record.specs.declared.positions.GenomePos.the-variants as G
+use Rattle.record.specs.declared.positions.MtPos.the-variants as M
+use Rattle.grammar.specs.Positions.{Mark, Mark.bare, Mark.minus, Mark.star, Offset, Offset.absent, Offset.ahead, Offset.back, Based, Based.based, Genomic, Genomic.known, Genomic.unknown, Residual.residual, Position}
+use Rattle.grammar.specs.Values.{ProtPosV.protPosV, PositionV}
+use Rattle.lang.specs.Canon.{mapO, bothO}
+
+-- the decimal text, where digits of the value fit with the sign
+abbrev pub digitsOf : Sign → ℕ → Option (List ℕ)
+digitsOf sign v = cond (fits sign v) (some (dec v)) none
+
+-- of an unsigned number
+abbrev pub unsignedDigits : ℤ → Option (List ℕ)
+unsignedDigits (pos v) = digitsOf Plain v
+unsignedDigits (negsuc v) = none
+
+-- `+0` for an offset of 0
+abbrev pub canonOffset : Declared.Offset → Option Offset
+canonOffset Absent = some absent
+canonOffset (By (pos v)) = mapO ahead (digitsOf Plain v)
+canonOffset (By (negsuc v)) = mapO back (digitsOf Minus (suc v))
+
+abbrev pub marked : Mark → List ℕ → Offset → Based
+marked m ds o = based m ds o
+
+-- a mark and digits; `0` for a base of 0
+abbrev pub canonBase : CdsFrom → ℤ → Option (Offset → Based)
+canonBase Start (pos v) = mapO (marked bare) (digitsOf Plain v)
+canonBase Start (negsuc v) = mapO (marked minus) (digitsOf Minus (suc v))
+canonBase End z = mapO (marked star) (unsignedDigits z)
+
+abbrev pub canonBased : CdsFrom → ℤ → Declared.Offset → Option Based
+canonBased from z o = bothO (λ base offset. base offset) (canonBase from z) (canonOffset o)
+
+-- unknown where there is no number
+abbrev pub canonGenomic : Option ℤ → Option Genomic
+canonGenomic none = some unknown
+canonGenomic (some z) = mapO known (unsignedDigits z)
+
+abbrev pub canonPosition : (k : Kind) → PositionV k → Option (Position k)
+canonPosition Cds v = canonBased (v .«cds_from») (v .base) (v .offset)
+canonPosition Genome G.Unknown = canonGenomic none
+canonPosition Genome (G.At z) = canonGenomic (some z)
+canonPosition Mt M.Unknown = canonGenomic none
+canonPosition Mt (M.At z) = canonGenomic (some z)
+canonPosition Tx v = canonBased Start (v .base) (v .offset)
+canonPosition Prot (protPosV r z) = cond (isResidue r) (mapO (residual r) (unsignedDigits z)) none
+canonPosition Rna v = canonBased Start (v .base) (v .offset)

@@ -1,0 +1,65 @@
+-- Whether a location's numbers fit: the row of its numbers has no misfit exactly where each position fits, wherever it stands.
+use Prim.Native.Nat.{ℕ, _+_}
+use mathlib.Core.Path.{_≡_, refl}
+use mathlib.Core.Option.{none}
+use lib.ListN.{length}
+use Rattle.record.specs.declared.variant.Kind.{Kind}
+use Rattle.record.specs.declared.variant.Kind.the-variants.{Cds, Genome, Mt, Tx, Prot, Rna}
+use Rattle.grammar.specs.Positions.{Offset.absent, Offset.ahead, Offset.back, Based, Based.based, Genomic, Genomic.known, Genomic.unknown, Residual.residual, Position, printPosition}
+use Rattle.grammar.specs.Shapes.{Interval.one, Interval.two, Mu.certain, Mu.uncertain}
+use Rattle.grammar.specs.Bodies.{Ends, Location}
+use Rattle.grammar.specs.Numbers.{misfit, basedNumbers, genomicNumbers, positionNumbers, endsNumbers, muNumbers}
+use Rattle.grammar.specs.NumberLaws.{allFit, fit-elsewhere, misfit-both, both-misfit}
+use Rattle.location.specs.Canonical.{endsCanon, locationCanon}
+
+-- ---- a position fits wherever it stands
+module _ (i j : ℕ) where
+  based-anywhere : (t : Based) → allFit (basedNumbers i t) ≡ allFit (basedNumbers j t)
+  unfolding allFit
+  based-anywhere (based m ds absent) = refl
+  based-anywhere (based m ds (ahead es)) = refl
+  based-anywhere (based m ds (back es)) = refl
+
+  genomic-anywhere : (t : Genomic) → allFit (genomicNumbers i t) ≡ allFit (genomicNumbers j t)
+  unfolding allFit
+  genomic-anywhere (known ds) = refl
+  genomic-anywhere unknown = refl
+
+  position-anywhere : (k : Kind) (t : Position k) → allFit (positionNumbers k i t) ≡ allFit (positionNumbers k j t)
+  unfolding allFit
+  position-anywhere Cds t = based-anywhere t
+  position-anywhere Genome t = genomic-anywhere t
+  position-anywhere Mt t = genomic-anywhere t
+  position-anywhere Tx t = based-anywhere t
+  position-anywhere Prot (residual r ds) = refl
+  position-anywhere Rna t = based-anywhere t
+
+pub position-fits-anywhere : (k : Kind) (i j : ℕ) (t : Position k) → misfit (positionNumbers k i t) ≡ none → misfit (positionNumbers k j t) ≡ none
+position-fits-anywhere k i j t = fit-elsewhere (positionNumbers k i t) (positionNumbers k j t) (position-anywhere i j k t)
+
+-- ---- intervals and locations
+module _ (k : Kind) (i : ℕ) where
+  pub ends-fits : (t : Ends k) → misfit (endsNumbers k i t) ≡ none → endsCanon k .Fits t
+  ends-fits (one p) e = position-fits-anywhere k i 0 p e
+  ends-fits (two p q) e =
+      let j = i + length (printPosition k p) + 1 in
+      let h = misfit-both (positionNumbers k i p) (positionNumbers k j q) e in
+      (position-fits-anywhere k i 0 p (h .0), position-fits-anywhere k j 0 q (h .1))
+
+  pub fits-ends : (t : Ends k) → endsCanon k .Fits t → misfit (endsNumbers k i t) ≡ none
+  fits-ends (one p) f = position-fits-anywhere k 0 i p f
+  fits-ends (two p q) f =
+      let j = i + length (printPosition k p) + 1 in
+      both-misfit (positionNumbers k i p) (positionNumbers k j q) (position-fits-anywhere k 0 i p (f .0)) (position-fits-anywhere k 0 j q (f .1))
+
+pub location-fits : (k : Kind) (i : ℕ) (l : Location k) → misfit (muNumbers (endsNumbers k) i l) ≡ none → locationCanon k .Fits l
+location-fits k i (certain t) e = ends-fits k i t e
+location-fits k i (uncertain t) e = ends-fits k (i + 1) t e
+
+pub fits-location : (k : Kind) (i : ℕ) (l : Location k) → locationCanon k .Fits l → misfit (muNumbers (endsNumbers k) i l) ≡ none
+fits-location k i (certain t) f = fits-ends k i t f
+fits-location k i (uncertain t) f = fits-ends k (i + 1) t f
+
+-- and so whether it fits does not depend on where it stands
+pub location-fits-anywhere : (k : Kind) (i j : ℕ) (l : Location k) → misfit (muNumbers (endsNumbers k) i l) ≡ none → misfit (muNumbers (endsNumbers k) j l) ≡ none
+location-fits-anywhere k i j l e = fits-location k j l (location-fits k i l e)

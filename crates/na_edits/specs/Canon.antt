@@ -1,0 +1,43 @@
+-- The tree whose text is to be written for the value of an edit, where there is one.
+use Prim.Native.Nat.{ℕ}
+use mathlib.Core.List.{List}
+use mathlib.Core.Option.{Option, none, some}
+use mathlib.Core.Bool.{Bool, cond, _&&_}
+use lib.Dec.{eqb, leb}
+use lib.IntN.{ℤ, pos, negsuc}
+use lib.ListN.{length, getD}
+use Rattle.texts.specs.Runs.{every}
+use Rattle.texts.specs.Words.{same}
+use Rattle.number.specs.Digits.{dec}
+use Rattle.number.specs.Reading.{fits}
+use Rattle.number.specs.declared.Sign.the-variants.{Plain}
+use Rattle.grammar.specs.NucleotideEdits.{NaEdit, NaEdit.equal, NaEdit.swap, NaEdit.delIns, NaEdit.delNumIns, NaEdit.delNum, NaEdit.del, NaEdit.ins, NaEdit.dup, NaEdit.invNum, NaEdit.inv}
+use Rattle.grammar.specs.Values as Values
+use Rattle.grammar.specs.Values.{NaEditV, NaEditV.refAlt, NaEditV.numAlt, NaEditV.delRef, NaEditV.insV, NaEditV.dupV, NaEditV.invRef}
+
+-- one letter each
+abbrev pub ones : List ℕ → List ℕ → Bool
+ones a b = eqb (length a) 1 && eqb (length b) 1
+
+-- `a=`, else `A>T`, else `del` a `ins` b with letters b
+abbrev pub canonRefAlt : List ℕ → List ℕ → Option NaEdit
+canonRefAlt a b =
+    cond (same a b) (some (equal a))
+    (cond (ones a b) (some (swap (getD a 0 0) (getD b 0 0)))
+    (cond (leb 1 (length b)) (some (delIns a b)) none))
+
+-- a tree with the decimal text of a count that fits
+abbrev pub counted : (List ℕ → NaEdit) → ℤ → Option NaEdit
+counted f (pos v) = cond (fits Plain v) (some (f (dec v))) none
+counted f (negsuc v) = none
+
+module _ (na : ℕ → Bool) where
+  abbrev pub canonNaEdit : NaEditV → Option NaEdit
+  canonNaEdit (refAlt a b) = cond (every na a && every na b) (canonRefAlt a b) none
+  canonNaEdit (numAlt n b) = cond (every na b && leb 1 (length b)) (counted (λ ds. delNumIns ds b) n) none
+  canonNaEdit (delRef a) = cond (every na a) (some (del a)) none
+  canonNaEdit (Values.NaEditV.delNum n) = counted delNum n
+  canonNaEdit (insV b) = cond (every na b && leb 1 (length b)) (some (ins b)) none
+  canonNaEdit (dupV a) = cond (every na a) (some (dup a)) none
+  canonNaEdit (invRef a) = cond (every na a) (some (inv a)) none
+  canonNaEdit (Values.NaEditV.invNum n) = counted invNum n

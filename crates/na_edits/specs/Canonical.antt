@@ -1,0 +1,195 @@
+-- The tree that canon gives is one of the value, its text is best among all trees of the value, and where it gives none there is none.
+use Prim.Native.Nat.{ℕ, _+_, _≤_, _<_}
+use mathlib.Core.Path.{_≡_, refl, sym}
+use mathlib.Core.List.{List, [], _∷_}
+use mathlib.Core.Option.{none, some}
+use mathlib.Core.Bool.{Bool, true, false, _&&_}
+use native.Mathlib.Omega.{arith}
+use lib.Dec.{eqb, leb}
+use lib.IntN.{pos, negsuc}
+use lib.ListN.{length, getD, length-append}
+use borrow.Author.Tests.{eqb-true, le-leb, leb-true}
+use Rattle.texts.specs.Ascii.{ascii}
+use Rattle.texts.specs.Best.{Best.shorter, best-refl, best-append, best-behind}
+use Rattle.texts.specs.Tests.{and-true, none-some, cond-some}
+use Rattle.texts.specs.Runs.{every, Some, every-one, one-every}
+use Rattle.texts.specs.Words.{same, same-true, same-refl}
+use Rattle.number.specs.Digits.{val, dec}
+use Rattle.number.specs.Decimals.{dec-value, dec-some, dec-best}
+use Rattle.number.specs.Reading.{most, fits}
+use Rattle.number.specs.Signs.{saturated-fit}
+use Rattle.number.specs.declared.Sign.{Sign}
+use Rattle.number.specs.declared.Sign.the-variants.{Plain}
+use Rattle.grammar.specs.Shapes.{Mu, Mu.certain, Mu.uncertain, WfMu}
+use Rattle.grammar.specs.NucleotideEdits.{NaEdit, NaEdit.equal, NaEdit.swap, NaEdit.delIns, NaEdit.delNumIns, NaEdit.delNum, NaEdit.del, NaEdit.ins, NaEdit.dup, NaEdit.invNum, NaEdit.inv, printNaEdit, WfNaEdit}
+use Rattle.grammar.specs.Values as Values
+use Rattle.grammar.specs.Values.{NaEditV, NaEditV.refAlt, NaEditV.numAlt, NaEditV.delRef, NaEditV.insV, NaEditV.dupV, NaEditV.invRef}
+use Rattle.grammar.specs.Meaning.{number, meaningNaEdit}
+use Rattle.grammar.specs.Numbers.{Numeral.numeral, misfit, naEditNumbers, muNumbers}
+use Rattle.lang.specs.Canon.{Canon, Right, Covered}
+use Rattle.lang.specs.MuCanon.{mu-canon}
+use Rattle.na_edits.specs.Alphabet.{Alphabet}
+use Rattle.na_edits.specs.Choice.{if-holds}
+use Rattle.na_edits.specs.Sound.{naEditLang}
+use Rattle.na_edits.specs.Brackets.{brackets, muNaEditLang}
+use Rattle.na_edits.specs.Canon.{ones, canonRefAlt, counted, canonNaEdit}
+
+-- ---- numbers that fit
+-- one number fits, wherever it stands
+one-fits : (k : ℕ) (sign : Sign) (ds : List ℕ) → misfit (numeral k sign ds ∷ []) ≡ none → val ds ≤ most sign
+one-fits k sign ds e = go (fits sign (val ds)) refl
+  where
+    go : (b : Bool) → fits sign (val ds) ≡ b → val ds ≤ most sign
+    go true q = leb-true _ _ q
+    go false q = absurd (none-some (sym (rw q at e)))
+
+fits-one : (k : ℕ) (sign : Sign) (ds : List ℕ) → val ds ≤ most sign → misfit (numeral k sign ds ∷ []) ≡ none
+fits-one k sign ds h = rw (le-leb (val ds) (most sign) h)
+
+abbrev pub FitsNaEdit : NaEdit → Type 0
+FitsNaEdit t = misfit (naEditNumbers 0 t) ≡ none
+
+-- whether an edit's number fits does not depend on where the edit stands
+pub fits-anywhere : (j k : ℕ) (t : NaEdit) → misfit (naEditNumbers j t) ≡ none → misfit (naEditNumbers k t) ≡ none
+fits-anywhere j k (equal seq) e = refl
+fits-anywhere j k (swap a b) e = refl
+fits-anywhere j k (delIns seq seq1) e = refl
+fits-anywhere j k (delNumIns ds seq1) e = fits-one (k + 3) Plain ds (one-fits (j + 3) Plain ds e)
+fits-anywhere j k (delNum ds) e = fits-one (k + 3) Plain ds (one-fits (j + 3) Plain ds e)
+fits-anywhere j k (del seq) e = refl
+fits-anywhere j k (ins seq1) e = refl
+fits-anywhere j k (dup seq) e = refl
+fits-anywhere j k (invNum ds) e = fits-one (k + 3) Plain ds (one-fits (j + 3) Plain ds e)
+fits-anywhere j k (inv seq) e = refl
+
+-- the decimal text of a number that fits
+module _ (v : ℕ) (h : fits Plain v ≡ true) where
+  dec-number : number Plain (dec v) ≡ pos v
+  dec-number = rw dec-value (saturated-fit Plain v (leb-true _ _ h))
+
+  dec-fits : (k : ℕ) → misfit (numeral k Plain (dec v) ∷ []) ≡ none
+  dec-fits k = fits-one k Plain (dec v) (rw dec-value (leb-true _ _ h))
+
+counted-is : (f : List ℕ → NaEdit) (k : ℕ) (ds : List ℕ) → misfit (numeral k Plain ds ∷ []) ≡ none → counted f (number Plain ds) ≡ some (f (dec (val ds)))
+counted-is f k ds e = let h = one-fits k Plain ds e in rw (saturated-fit Plain (val ds) h, le-leb (val ds) (most Plain) h)
+
+-- ---- one letter
+one-is : (a : List ℕ) → length a ≡ 1 → a ≡ getD a 0 0 ∷ []
+one-is [] e = absurd (omega arith)
+one-is (x ∷ []) e = refl
+one-is (x ∷ y ∷ a) e = absurd (omega arith)
+
+module _ (na : ℕ → Bool) (al : Alphabet na) where
+  abbrev RightEdit : NaEditV → NaEdit → Type 0
+  RightEdit = Right (naEditLang na al) meaningNaEdit FitsNaEdit
+
+  abbrev CoveredEdit : NaEdit → Type 0
+  CoveredEdit t = Covered (naEditLang na al) (canonNaEdit na) (meaningNaEdit t) t
+
+  -- ---- the tree is one of the value
+  right-refAlt : (a b : List ℕ) (t : NaEdit) → every na a ≡ true → every na b ≡ true → canonRefAlt a b ≡ some t → RightEdit (refAlt a b) t
+  right-refAlt a b t ha hb e = go (same a b) (ones a b) (leb 1 (length b)) refl refl refl
+    where
+      go : (x y z : Bool) → same a b ≡ x → ones a b ≡ y → leb 1 (length b) ≡ z → RightEdit (refAlt a b) t
+      go true y z p q r =
+          let h : some (equal a) ≡ some t = rw p at e in
+          let i : equal a ≡ t = cc in
+          let j = same-true a b p in
+          rw (← i) (record { wf = ha; fits = refl; means = cc })
+      go false true z p q r =
+          let h : some (swap (getD a 0 0) (getD b 0 0)) ≡ some t = rw (p, q) at e in
+          let i : swap (getD a 0 0) (getD b 0 0) ≡ t = cc in
+          let l = and-true (eqb (length a) 1) (eqb (length b) 1) q in
+          let ja = one-is a (eqb-true _ _ (l .0)) in
+          let jb = one-is b (eqb-true _ _ (l .1)) in
+          rw (← i) (record { wf = (every-one na _ (rw ja at ha), every-one na _ (rw jb at hb)); fits = refl; means = cc })
+      go false false true p q r =
+          let h : some (delIns a b) ≡ some t = rw (p, q, r) at e in
+          let i : delIns a b ≡ t = cc in
+          rw (← i) (record { wf = (ha, record { some = leb-true _ _ r; all = hb }); fits = refl; means = refl })
+      go false false false p q r = absurd (none-some (rw (p, q, r) at e))
+
+  -- one or more letters
+  some-letters : (b : List ℕ) → every na b && leb 1 (length b) ≡ true → Some na b
+  some-letters b e = let h = and-true (every na b) (leb 1 (length b)) e in record { some = leb-true _ _ (h .1); all = h .0 }
+
+  letters-some : (b : List ℕ) → Some na b → every na b && leb 1 (length b) ≡ true
+  letters-some b w = rw (w .all) (le-leb 1 (length b) (w .some))
+
+  pub right : (v : NaEditV) (t : NaEdit) → canonNaEdit na v ≡ some t → RightEdit v t
+  right (refAlt a b) t e =
+      let h = cond-some (every na a && every na b) (canonRefAlt a b) t e in
+      let w = and-true (every na a) (every na b) (h .0) in
+      right-refAlt a b t (w .0) (w .1) (h .1)
+  right (numAlt (pos v) b) t e =
+      let h = cond-some (every na b && leb 1 (length b)) (counted (λ ds. delNumIns ds b) (pos v)) t e in
+      if-holds (RightEdit (numAlt (pos v) b)) (fits Plain v) (delNumIns (dec v) b) t (h .1)
+      (λ q. record { wf = (dec-some v, some-letters b (h .0)); fits = dec-fits v q 3; means = rw (dec-number v q) })
+  right (numAlt (negsuc v) b) t e = absurd (none-some (cond-some (every na b && leb 1 (length b)) none t e .1))
+  right (delRef a) t e = if-holds (RightEdit (delRef a)) (every na a) (del a) t e (λ h. record { wf = h; fits = refl; means = refl })
+  right (Values.NaEditV.delNum (pos v)) t e =
+      if-holds (RightEdit (Values.NaEditV.delNum (pos v))) (fits Plain v) (delNum (dec v)) t e
+      (λ q. record { wf = dec-some v; fits = dec-fits v q 3; means = rw (dec-number v q) })
+  right (Values.NaEditV.delNum (negsuc v)) t e = absurd (none-some e)
+  right (insV b) t e = if-holds (RightEdit (insV b)) (every na b && leb 1 (length b)) (ins b) t e (λ h. record { wf = some-letters b h; fits = refl; means = refl })
+  right (dupV a) t e = if-holds (RightEdit (dupV a)) (every na a) (dup a) t e (λ h. record { wf = h; fits = refl; means = refl })
+  right (invRef a) t e = if-holds (RightEdit (invRef a)) (every na a) (inv a) t e (λ h. record { wf = h; fits = refl; means = refl })
+  right (Values.NaEditV.invNum (pos v)) t e =
+      if-holds (RightEdit (Values.NaEditV.invNum (pos v))) (fits Plain v) (invNum (dec v)) t e
+      (λ q. record { wf = dec-some v; fits = dec-fits v q 3; means = rw (dec-number v q) })
+  right (Values.NaEditV.invNum (negsuc v)) t e = absurd (none-some e)
+
+  -- ---- and no tree of the value has a better text
+  covers-delIns : (a b : List ℕ) → every na a ≡ true → Some na b → CoveredEdit (delIns a b)
+  covers-delIns a b ha hb = go (same a b) (ones a b) refl refl
+    where
+      go : (x y : Bool) → same a b ≡ x → ones a b ≡ y → CoveredEdit (delIns a b)
+      go true y p q =
+          let l : length (printNaEdit (equal a)) < length (printNaEdit (delIns a b)) = simp length-append (omega arith) in
+          record { tree = equal a; found = rw (ha, hb .all, p); best = shorter l }
+      go false true p q =
+          let l : 3 < length (printNaEdit (delIns a b)) = simp length-append (omega (arith, hb .some)) in
+          let m : length (printNaEdit (swap (getD a 0 0) (getD b 0 0))) < length (printNaEdit (delIns a b)) = l in
+          record { tree = swap (getD a 0 0) (getD b 0 0); found = rw (ha, hb .all, p, q); best = shorter m }
+      go false false p q = record { tree = delIns a b; found = rw (ha, hb .all, p, q, le-leb 1 (length b) (hb .some)); best = best-refl }
+
+  covers-swap : (x y : ℕ) → na x ≡ true → na y ≡ true → CoveredEdit (swap x y)
+  covers-swap x y hx hy = go (same (x ∷ []) (y ∷ [])) refl
+    where
+      go : (t : Bool) → same (x ∷ []) (y ∷ []) ≡ t → CoveredEdit (swap x y)
+      go true p =
+          let l : length (printNaEdit (equal (x ∷ []))) < length (printNaEdit (swap x y)) = omega arith in
+          record { tree = equal (x ∷ []); found = rw (one-every na x hx, one-every na y hy, p); best = shorter l }
+      go false p = record { tree = swap x y; found = rw (one-every na x hx, one-every na y hy, p); best = best-refl }
+
+  pub covers : (u : NaEdit) → WfNaEdit na u → FitsNaEdit u → CoveredEdit u
+  covers (equal seq) w f = record { tree = equal seq; found = rw (w, same-refl seq); best = best-refl }
+  covers (swap a b) w f = covers-swap a b (w .0) (w .1)
+  covers (delIns seq seq1) w f = covers-delIns seq seq1 (w .0) (w .1)
+  covers (delNumIns ds seq1) w f = record {
+    tree = delNumIns (dec (val ds)) seq1;
+    found = rw (letters-some seq1 (w .1)) (counted-is (λ ds. delNumIns ds seq1) 3 ds f);
+    best = best-behind (ascii "del") (best-append (dec-best (w .0) refl) best-refl);
+  }
+  covers (delNum ds) w f = record { tree = delNum (dec (val ds)); found = counted-is delNum 3 ds f; best = best-behind (ascii "del") (dec-best w refl) }
+  covers (del seq) w f = record { tree = del seq; found = rw w; best = best-refl }
+  covers (ins seq1) w f = record { tree = ins seq1; found = rw (letters-some seq1 w); best = best-refl }
+  covers (dup seq) w f = record { tree = dup seq; found = rw w; best = best-refl }
+  covers (invNum ds) w f = record { tree = invNum (dec (val ds)); found = counted-is invNum 3 ds f; best = best-behind (ascii "inv") (dec-best w refl) }
+  covers (inv seq) w f = record { tree = inv seq; found = rw w; best = best-refl }
+
+  abbrev pub naEditCanon : Canon (naEditLang na al)
+  naEditCanon = record { Value = NaEditV; meaning = meaningNaEdit; Fits = FitsNaEdit; canon = canonNaEdit na; right = right; covers = covers }
+
+  -- ---- in brackets or not
+  abbrev pub muNaEditCanon : Canon (muNaEditLang na al)
+  muNaEditCanon = mu-canon (naEditLang na al) (brackets na al) naEditCanon
+
+-- its fit is that of its numbers, wherever it stands
+pub mu-fits : (k : ℕ) (t : Mu NaEdit) → WfMu FitsNaEdit t → misfit (muNumbers naEditNumbers k t) ≡ none
+mu-fits k (certain e) f = fits-anywhere 0 k e f
+mu-fits k (uncertain e) f = fits-anywhere 0 (k + 1) e f
+
+pub fits-mu : (k : ℕ) (t : Mu NaEdit) → misfit (muNumbers naEditNumbers k t) ≡ none → WfMu FitsNaEdit t
+fits-mu k (certain e) f = fits-anywhere k 0 e f
+fits-mu k (uncertain e) f = fits-anywhere (k + 1) 0 e f

@@ -1,0 +1,1 @@
+// Nucleotide edits as a language and as values: definitions and laws alone, in specs/.

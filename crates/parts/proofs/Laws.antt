@@ -1,0 +1,38 @@
+-- Laws of the tests on spans.
+use Prim.Native.Nat.{ℕ, _+_, _-_, _≤_}
+use mathlib.Core.Path.{_≡_, ap, sym, _∙_}
+use mathlib.Core.List.{List}
+use mathlib.Core.Bool.{Bool, true, false, _&&_}
+use lib.Dec.{leb}
+use lib.ListN.{length, take, drop}
+use borrow.Author.Tests.{leb-true}
+use denote.Ref.{RefT}
+use Rattle.texts.specs.Tests.{and-true}
+use Rattle.record.specs.declared.spans.Span.{Span}
+use Rattle.grammar.specs.Spans.{inside, part}
+use Rattle.parts.specs.Places.{placeOf, IsPart}
+
+-- what an arm found for the case that the value is
+pub told : {A : Type 0} (f : A → Bool) {x y : A} {r : Bool} → x ≡ y → r ≡ f y → r ≡ f x
+told f e q = q ∙ ap f (sym e)
+
+-- one test, and then another
+pub both-fail : {r a : Bool} (b : Bool) → r ≡ a → r ≡ false → false ≡ a && b
+both-fail b e f = rw (← e, f)
+
+pub both-next : {q r a b : Bool} → q ≡ a → q ≡ true → r ≡ b → r ≡ a && b
+both-next e t f = rw (← e, t) f
+
+module _ (source : RefT (List ℕ)) (p : Span) where
+  pub inside-true : inside (length (source .now)) p ≡ true → (p .start ≤ p .end) × (p .end ≤ length (source .now))
+  inside-true e =
+      let h = and-true (leb (p .start) (p .end)) (leb (p .end) (length (source .now))) e in
+      (leb-true (p .start) (p .end) (h .0), leb-true (p .end) (length (source .now)) (h .1))
+
+  pub inside-part : (γ : ℕ) → inside (length (source .now)) p ≡ true → IsPart source p (record { ptr = (source .ptr .0, p .start + source .ptr .1); name = γ; now = take (p .end - p .start) (drop (p .start) (source .now)) })
+  unfolding part placeOf
+  inside-part γ e = record { bytes = rw e; place = rw e }
+
+  pub outside-part : (γ : ℕ) → inside (length (source .now)) p ≡ false → IsPart source p (record { ptr = source .ptr; name = γ; now = take 0 (source .now) })
+  unfolding part placeOf
+  outside-part γ e = record { bytes = rw e; place = rw e }

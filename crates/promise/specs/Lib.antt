@@ -1,0 +1,7 @@
+pub mod Outcome
+pub mod Reading
+pub mod Writing
+pub mod NoRef
+pub mod Width
+pub mod Accession
+pub mod Unique

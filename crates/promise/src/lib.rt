@@ -1,0 +1,1 @@
+// What each operation answers, as relations between input and answer.

@@ -1,0 +1,63 @@
+-- What may follow a protein edit: the end of the text, or a byte with which no edit goes on.
+use Prim.Native.Nat.{ℕ}
+use Prim.Native.Char.{code}
+use mathlib.Core.Path.{_≡_, refl}
+use mathlib.Core.List.{List, [], _∷_, _++_}
+use mathlib.Core.Bool.{Bool, true, false, _&&_, _||_}
+use lib.Dec.{eqb}
+use borrow.Author.Tests.{eqb-true}
+use Rattle.texts.specs.Ascii.{ascii}
+use Rattle.texts.specs.Tests.{and-true, left-or, right-or, never, clash}
+use Rattle.texts.specs.Runs.{every, run, run-nil, run-first, run-head}
+use Rattle.texts.specs.Words.{starts}
+use Rattle.alphabet.specs.Letters.{among, digit, residue}
+use Rattle.alphabet.specs.Apart.{among-every}
+use Rattle.residue.specs.Reading.{continues}
+use Rattle.residue.specs.Laws.{continues-nil, continues-first}
+
+-- residues and how they go on, digits, and what `fs`, `ext`, `ins`, `?` and `-` start with
+unfoldable pub goesOn : ℕ → Bool
+goesOn b = residue b || (digit b || among b (ascii "aefhilrsy?-"))
+
+pub record Stops (r : List ℕ) : Type 0 where
+  pub ends : run goesOn r ≡ 0
+
+pub stop-nil : Stops []
+stop-nil = record { ends = run-nil goesOn }
+
+pub stop-first : (b : ℕ) (r : List ℕ) → goesOn b ≡ false → Stops (b ∷ r)
+stop-first b r h = record { ends = run-first goesOn b r h }
+
+pub stop-close : (r : List ℕ) → Stops (ascii ")" ++ r)
+unfolding goesOn residue digit
+stop-close r = stop-first (code ")") r refl
+
+-- ---- so nothing of an edit follows
+narrower : (p q : ℕ → Bool) → ((b : ℕ) → p b ≡ true → q b ≡ true) → (r : List ℕ) → run q r ≡ 0 → run p r ≡ 0
+narrower p q h [] e = run-nil p
+narrower p q h (b ∷ r) e = run-first p b r (never (p b) (λ t. clash (h b t) (run-head q b r e)))
+
+module _ (r : List ℕ) (st : Stops r) where
+  pub no-residue : run residue r ≡ 0
+  unfolding goesOn
+  no-residue = narrower residue goesOn (λ b h. left-or (digit b || among b (ascii "aefhilrsy?-")) h) r (st .ends)
+
+  pub no-digit : run digit r ≡ 0
+  unfolding goesOn
+  no-digit = narrower digit goesOn (λ b h. right-or (residue b) (left-or (among b (ascii "aefhilrsy?-")) h)) r (st .ends)
+
+-- a word does not start a text that starts with no byte of the word's kind
+pub no-start : (p : ℕ → Bool) (c : ℕ) (w r : List ℕ) → p c ≡ true → run p r ≡ 0 → starts (c ∷ w) r ≡ false
+unfolding starts
+no-start p c w [] h e = refl
+no-start p c w (b ∷ r) h e =
+    never (eqb c b && starts w r) (λ q. clash (rw (eqb-true c b (and-true (eqb c b) (starts w r) q .0)) at h) (run-head p b r e))
+
+pub no-word : (c : ℕ) (w r : List ℕ) → goesOn c ≡ true → Stops r → starts (c ∷ w) r ≡ false
+no-word c w r h st = no-start goesOn c w r h (st .ends)
+
+pub no-continues : (r : List ℕ) → Stops r → continues r ≡ false
+unfolding goesOn residue digit every
+no-continues [] st = continues-nil
+no-continues (b ∷ r) st =
+    continues-first b r (never (among b (ascii "aehilrsy")) (λ q. clash (among-every goesOn b (ascii "aehilrsy") refl q) (run-head goesOn b r (st .ends))))

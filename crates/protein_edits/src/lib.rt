@@ -1,0 +1,1 @@
+// Protein edits: the edit at the front of a text, and the canonical text of an edit.

@@ -1,0 +1,34 @@
+-- What the routines answer for what the parser finds.
+use Prim.Native.Nat.{ℕ}
+use mathlib.Core.List.{List}
+use mathlib.Core.Option.{Option, none, some}
+use lib.ListN.{length}
+use Rattle.record.specs.declared.variant.Kind.{Kind}
+use Rattle.grammar.specs.Optional.{printOptional}
+use Rattle.grammar.specs.Header.{Accession, printAccession, Header, printHeader}
+use Rattle.grammar.specs.Records.{headerAt}
+use Rattle.read_header.specs.declared.HeaderRead.{HeaderRead}
+use Rattle.read_header.specs.declared.HeaderRead.the-variants.{Nothing, Found}
+use Rattle.read_header.specs.declared.KindRead.{KindRead}
+use Rattle.read_header.specs.declared.KindRead.the-variants as KindFound
+
+-- how many bytes were found; 0 where nothing was
+abbrev pub optionalLength : List ℕ → Option (List ℕ) → ℕ
+optionalLength word o = length (printOptional word o)
+
+abbrev pub accessionLength : Option Accession → ℕ
+accessionLength none = 0
+accessionLength (some a) = length (printAccession a)
+
+-- without its brackets
+abbrev pub geneLength : Option (List ℕ) → ℕ
+geneLength none = 0
+geneLength (some gene) = length gene
+
+unfoldable pub headerAnswer : ℕ → Option Header → HeaderRead
+headerAnswer at none = Nothing
+headerAnswer at (some t) = Found (headerAt at t) (length (printHeader t))
+
+unfoldable pub kindAnswer : Option Kind → KindRead
+kindAnswer none = KindFound.Nothing
+kindAnswer (some k) = KindFound.Found k

@@ -1,0 +1,154 @@
+-- From the answers for positions to that for an interval, and from that to the answer for a location.
+use Prim.Native.Nat.{ℕ, _+_, _-_, _≤_}
+use mathlib.Core.Path.{_≡_, refl, sym, ap, _∙_}
+use mathlib.Core.List.{List, _++_}
+use mathlib.Core.Option.{Option, none, some}
+use mathlib.Core.Bool.{true, false}
+use native.Mathlib.Omega.{arith}
+use lib.ListN.{length, take, drop, length-append, length-drop}
+use lib.Seq.{drop-drop}
+use Rattle.texts.specs.Ascii.{ascii}
+use Rattle.texts.specs.Slices.{tail-part}
+use Rattle.texts.specs.Words.{starts, starts-length}
+use Rattle.record.specs.declared.variant.Kind.{Kind}
+use Rattle.grammar.specs.Positions as Tree
+use Rattle.grammar.specs.Positions.{printPosition}
+use Rattle.grammar.specs.Shapes.{Interval.one, Interval.two, Mu.certain}
+use Rattle.grammar.specs.Bodies.{Ends, printEnds}
+use Rattle.grammar.specs.Numbers.{positionNumbers, endsNumbers}
+use Rattle.lang.specs.Lang.{within}
+use Rattle.lang.specs.IntervalLang.{parseInterval}
+use Rattle.lang.specs.MuLang.{bare, parseMu}
+use Rattle.scan.specs.declared.Faults.{Faults}
+use Rattle.scan.specs.Faults.{faults, first, faults-append}
+use Rattle.location.specs.Parse.{parsePosition}
+use Rattle.location.specs.Languages.{posLang, endsLang, locationLang}
+use Rattle.read_location.specs.declared.Position.{Position}
+use Rattle.read_location.specs.declared.PositionRead.the-variants as PR
+use Rattle.read_location.specs.declared.Location.{Location}
+use Rattle.read_location.specs.declared.LocationRead.the-variants.{Nothing, Found}
+use Rattle.read_location.specs.Told.{PositionTold, position-unread, IntervalTold, interval-unread}
+use Rattle.read_location.specs.Answer.{positionOf, positionAnswer, intervalOf, uncertainOf, intervalAnswer, locationAnswer}
+
+-- ---- intervals
+module _ (k : Kind) (at : ℕ) (s : List ℕ) where
+  pub interval-none : PR.Nothing ≡ positionAnswer k at (parsePosition k s) → Nothing ≡ intervalAnswer k at (endsLang k .parse s)
+  unfolding parseInterval intervalAnswer
+  interval-none e = rw (position-unread k at s e)
+
+  -- where t stands first
+  module _ (t : Tree.Position k) (q : parsePosition k s ≡ some t) where
+    one-is : starts (ascii "_") (drop (length (printPosition k t)) s) ≡ false
+        → Found (intervalOf k true at (one t)) (length (printPosition k t)) (faults (positionNumbers k at t)) ≡ intervalAnswer k at (endsLang k .parse s)
+    unfolding parseInterval intervalAnswer
+    one-is j = rw (q, j)
+
+    module _ (j : starts (ascii "_") (drop (length (printPosition k t)) s) ≡ true) where
+      half-is : parsePosition k (drop 1 (drop (length (printPosition k t)) s)) ≡ none → Nothing ≡ intervalAnswer k at (endsLang k .parse s)
+      unfolding parseInterval intervalAnswer
+      half-is h = rw (q, j, h)
+
+      two-is : (u : Tree.Position k) → parsePosition k (drop 1 (drop (length (printPosition k t)) s)) ≡ some u
+          → Found (intervalOf k true at (two t u)) (length (printPosition k t) + 1 + length (printPosition k u)) (first (faults (positionNumbers k at t)) (faults (positionNumbers k (at + length (printPosition k t) + 1) u))) ≡ intervalAnswer k at (endsLang k .parse s)
+      unfolding parseInterval intervalAnswer
+      two-is u h =
+          let l : length (printPosition k t) + 1 + length (printPosition k u) ≡ length (printPosition k t ++ (ascii "_" ++ printPosition k u)) = simp length-append (omega arith) in
+          rw (q, j, h, l, faults-append (positionNumbers k at t) (positionNumbers k (at + length (printPosition k t) + 1) u))
+
+-- what was read first
+module _ {k : Kind} {at : ℕ} {s : List ℕ} {p : Position} {n : ℕ} {f : Faults} (a : PositionTold k at s p n f) where
+  pub start-le : n ≤ length s
+  start-le = omega (arith, a .long, within (posLang k) s (a .tree) (a .parsed))
+
+  rest-is : take (length s - n) (drop n s) ≡ drop (length (printPosition k (a .tree))) s
+  rest-is = tail-part n s ∙ ap (λ (i : ℕ). drop i s) (a .long)
+
+  pub interval-one : starts (ascii "_") (take (length s - n) (drop n s)) ≡ false → Found (record { certain = true; start = p; end = p }) n f ≡ intervalAnswer k at (endsLang k .parse s)
+  interval-one j = cc (one-is k at s (a .tree) (a .parsed) (sym (ap (starts (ascii "_")) rest-is) ∙ j))
+
+  module _ (j : starts (ascii "_") (take (length s - n) (drop n s)) ≡ true) where
+    joined : starts (ascii "_") (drop (length (printPosition k (a .tree))) s) ≡ true
+    joined = sym (ap (starts (ascii "_")) rest-is) ∙ j
+
+    pub join-le : n + 1 ≤ length s
+    join-le = omega (arith, starts-length (ascii "_") (drop n s) (rw (tail-part n s) at j), length-drop n s, start-le)
+
+    next-is : take (length s - (n + 1)) (drop (n + 1) s) ≡ drop 1 (drop (length (printPosition k (a .tree))) s)
+    next-is = tail-part (n + 1) s ∙ sym (drop-drop 1 n s) ∙ ap (λ (i : ℕ). drop 1 (drop i s)) (a .long)
+
+    pub interval-half : PR.Nothing ≡ positionAnswer k (at + (n + 1)) (parsePosition k (take (length s - (n + 1)) (drop (n + 1) s))) → Nothing ≡ intervalAnswer k at (endsLang k .parse s)
+    interval-half h = half-is k at s (a .tree) (a .parsed) joined (ap (parsePosition k) (sym next-is) ∙ position-unread k (at + (n + 1)) _ h)
+
+    -- what was read behind the bar
+    module _ {u : Position} {m : ℕ} {g : Faults} (b : PositionTold k (at + (n + 1)) (take (length s - (n + 1)) (drop (n + 1) s)) u m g) where
+      pub end-le : n + 1 + m ≤ length s
+      end-le =
+          let y = take (length s - (n + 1)) (drop (n + 1) s) in
+          let w : length y ≡ length s - (n + 1) = rw (tail-part (n + 1) s) (length-drop (n + 1) s) in
+          omega (arith, b .long, within (posLang k) y (b .tree) (b .parsed), join-le)
+
+      pub interval-two : (x : Faults) → x ≡ first f g → Found (record { certain = true; start = p; end = u }) (n + 1 + m) x ≡ intervalAnswer k at (endsLang k .parse s)
+      interval-two x ex =
+          let place : at + (n + 1) ≡ at + length (printPosition k (a .tree)) + 1 = omega (arith, a .long) in
+          let means : u ≡ positionOf k (at + length (printPosition k (a .tree)) + 1) (b .tree) = b .means ∙ ap (λ (i : ℕ). positionOf k i (b .tree)) place in
+          let wrong : g ≡ faults (positionNumbers k (at + length (printPosition k (a .tree)) + 1) (b .tree)) = b .wrong ∙ ap (λ (i : ℕ). faults (positionNumbers k i (b .tree))) place in
+          cc (two-is k at s (a .tree) (a .parsed) joined (b .tree) (ap (parsePosition k) (sym next-is) ∙ b .parsed))
+
+-- ---- locations
+bare-answer : (k : Kind) (at : ℕ) (o : Option (Ends k)) → intervalAnswer k at o ≡ locationAnswer k at (bare (endsLang k) o)
+unfolding intervalAnswer locationAnswer
+bare-answer k at none = refl
+bare-answer k at (some i) = refl
+
+uncertain-is : (k : Kind) (at : ℕ) (i : Ends k) → uncertainOf (intervalOf k true at i) ≡ intervalOf k false at i
+uncertain-is k at (one p) = refl
+uncertain-is k at (two p q) = refl
+
+module _ (k : Kind) (at : ℕ) (s : List ℕ) where
+  pub location-bare : starts (ascii "(") s ≡ false → intervalAnswer k at (endsLang k .parse s) ≡ locationAnswer k at (locationLang k .parse s)
+  unfolding parseMu
+  location-bare o = rw o (bare-answer k at (endsLang k .parse s))
+
+  module _ (o : starts (ascii "(") s ≡ true) where
+    pub open-le : 1 ≤ length s
+    open-le = starts-length (ascii "(") s o
+
+    pub open-none : Nothing ≡ intervalAnswer k (at + 1) (endsLang k .parse (take (length s - 1) (drop 1 s))) → Nothing ≡ locationAnswer k at (locationLang k .parse s)
+    unfolding parseMu locationAnswer
+    open-none e = rw (o, interval-unread k (at + 1) (drop 1 s) (rw (tail-part 1 s) at e))
+
+    -- where i stands behind the bracket
+    module _ (i : Ends k) (q : endsLang k .parse (drop 1 s) ≡ some i) where
+      left-is : starts (ascii ")") (drop (length (printEnds k i)) (drop 1 s)) ≡ false → Nothing ≡ locationAnswer k at (locationLang k .parse s)
+      unfolding parseMu locationAnswer
+      left-is c = rw (o, q, c)
+
+      shut-is : starts (ascii ")") (drop (length (printEnds k i)) (drop 1 s)) ≡ true
+          → Found (intervalOf k false (at + 1) i) (1 + length (printEnds k i) + 1) (faults (endsNumbers k (at + 1) i)) ≡ locationAnswer k at (locationLang k .parse s)
+      unfolding parseMu locationAnswer
+      shut-is c =
+          let l : 1 + length (printEnds k i) + 1 ≡ length (ascii "(" ++ (printEnds k i ++ ascii ")")) = simp length-append (omega arith) in
+          rw (o, q, c, l)
+
+    -- what was read behind the bracket
+    module _ {l : Location} {n : ℕ} {f : Faults} (inner : IntervalTold k (at + 1) (take (length s - 1) (drop 1 s)) l n f) where
+      parsed-is : endsLang k .parse (drop 1 s) ≡ some (inner .tree)
+      parsed-is = ap (endsLang k .parse) (sym (tail-part 1 s)) ∙ inner .parsed
+
+      pub inner-le : 1 + n ≤ length s
+      inner-le = omega (arith, inner .long, within (endsLang k) (drop 1 s) (inner .tree) parsed-is, length-drop 1 s, open-le)
+
+      close-is : take (length s - (1 + n)) (drop (1 + n) s) ≡ drop (length (printEnds k (inner .tree))) (drop 1 s)
+      close-is = tail-part (1 + n) s ∙ sym (drop-drop n 1 s) ∙ ap (λ (x : ℕ). drop x (drop 1 s)) (inner .long)
+
+      pub open-left : starts (ascii ")") (take (length s - (1 + n)) (drop (1 + n) s)) ≡ false → Nothing ≡ locationAnswer k at (locationLang k .parse s)
+      open-left c = left-is (inner .tree) parsed-is (sym (ap (starts (ascii ")")) close-is) ∙ c)
+
+      module _ (c : starts (ascii ")") (take (length s - (1 + n)) (drop (1 + n) s)) ≡ true) where
+        pub shut-le : 1 + n + 1 ≤ length s
+        shut-le = omega (arith, starts-length (ascii ")") (drop (1 + n) s) (rw (tail-part (1 + n) s) at c), length-drop (1 + n) s, inner-le)
+
+        pub open-shut : (u : Location) → u ≡ uncertainOf l → Found u (1 + n + 1) f ≡ locationAnswer k at (locationLang k .parse s)
+        open-shut u eu =
+            let means : u ≡ intervalOf k false (at + 1) (inner .tree) = eu ∙ ap uncertainOf (inner .means) ∙ uncertain-is k (at + 1) (inner .tree) in
+            cc (shut-is (inner .tree) parsed-is (sym (ap (starts (ascii ")")) close-is) ∙ c))

@@ -1,0 +1,97 @@
+-- What the routines give for what was found: the position or location with its spans, its length, and the faults of its numbers.
+use Prim.Native.Nat.{ℕ, _+_}
+use mathlib.Core.List.{List, _∷_, []}
+use mathlib.Core.Option.{Option, none, some}
+use mathlib.Core.Bool.{Bool, true, false, cond}
+use lib.Dec.{eqb}
+use lib.IntN.{ℤ, pos}
+use lib.ListN.{length}
+use Rattle.texts.specs.Runs.{run, front}
+use Rattle.alphabet.specs.Letters.{digit}
+use Rattle.number.specs.declared.Sign.{Sign}
+use Rattle.number.specs.declared.Sign.the-variants.{Plain}
+use Rattle.record.specs.declared.spans.Span.{Span}
+use Rattle.record.specs.declared.variant.Kind.{Kind}
+use Rattle.record.specs.declared.variant.Kind.the-variants.{Cds, Genome, Mt, Tx, Prot, Rna}
+use Rattle.record.specs.declared.positions.CdsFrom.the-variants.{Start}
+use Rattle.record.specs.declared.positions.Offset.the-variants.{Absent, By}
+use Rattle.grammar.specs.Positions as G
+use Rattle.grammar.specs.Positions.{Offset.absent, Based, Based.based, Genomic, Genomic.known, Genomic.unknown, Residual, Residual.residual, printMark, printOffset, printPosition}
+use Rattle.grammar.specs.Shapes.{Interval.one, Interval.two, Mu.certain, Mu.uncertain}
+use Rattle.grammar.specs.Bodies as B
+use Rattle.grammar.specs.Bodies.{Ends, printEnds, printLocation}
+use Rattle.grammar.specs.Meaning.{number, signOf, fromOf, offsetOf}
+use Rattle.grammar.specs.Records.{span, spanOf}
+use Rattle.grammar.specs.Numbers.{Numeral, Numeral.numeral, offsetNumbers, positionNumbers, endsNumbers, muNumbers}
+use Rattle.scan.specs.Faults.{faults}
+use Rattle.read_location.specs.declared.Position.{Position}
+use Rattle.read_location.specs.declared.PositionRead.{PositionRead}
+use Rattle.read_location.specs.declared.PositionRead.the-variants as PR
+use Rattle.read_location.specs.declared.Location.{Location}
+use Rattle.read_location.specs.declared.LocationRead.{LocationRead}
+use Rattle.read_location.specs.declared.LocationRead.the-variants as LR
+use Rattle.read_location.specs.declared.Mark.{Mark}
+use Rattle.read_location.specs.declared.OffsetRead.{OffsetRead}
+
+-- ---- positions
+abbrev pub plainOf : Span → ℤ → Bool → Position
+plainOf aa n isUnknown = record { aa = aa; number = n; unknown = isUnknown; «cds_from» = Start; offset = Absent }
+
+abbrev pub basedOf : Based → Position
+basedOf (based m ds o) = record { aa = span 0 0; number = number (signOf m) ds; unknown = false; «cds_from» = fromOf m; offset = offsetOf o }
+
+abbrev pub genomicOf : Genomic → Position
+genomicOf (known ds) = plainOf (span 0 0) (number Plain ds) false
+genomicOf unknown = plainOf (span 0 0) (pos 0) true
+
+abbrev pub residualOf : ℕ → Residual → Position
+residualOf at (residual r ds) = plainOf (spanOf at r) (number Plain ds) false
+
+abbrev pub positionOf : (k : Kind) → ℕ → G.Position k → Position
+positionOf Cds at = basedOf
+positionOf Genome at = genomicOf
+positionOf Mt at = genomicOf
+positionOf Tx at = basedOf
+positionOf Prot at = residualOf at
+positionOf Rna at = basedOf
+
+-- what is given for a tree: what it reads as, the length of its text, and the faults of its numbers
+unfoldable pub foundAs : {A : Type 0} → (A → Position) → (A → List ℕ) → (A → List Numeral) → Option A → PositionRead
+foundAs read print numbers none = PR.Nothing
+foundAs read print numbers (some t) = PR.Found (read t) (length (print t)) (faults (numbers t))
+
+abbrev pub positionAnswer : (k : Kind) → ℕ → Option (G.Position k) → PositionRead
+positionAnswer k at = foundAs (positionOf k at) (printPosition k) (positionNumbers k at)
+
+-- ---- the parts of a base
+abbrev pub markOf : G.Mark → Mark
+markOf m = record { len = length (printMark m); sign = signOf m; «cds_from» = fromOf m }
+
+unfoldable pub offsetAnswer : ℕ → G.Offset → OffsetRead
+offsetAnswer at o = record { offset = offsetOf o; len = length (printOffset o); faults = faults (offsetNumbers at o) }
+
+-- s stands behind the sign of an offset that stands at `at`
+unfoldable pub offsetBehind : ℕ → Sign → List ℕ → OffsetRead
+offsetBehind at sign s =
+    cond (eqb (run digit s) 0) (offsetAnswer at absent)
+    (record { offset = By (number sign (front digit s)); len = 1 + run digit s; faults = faults (numeral (at + 1) sign (front digit s) ∷ []) })
+
+-- ---- intervals and locations
+abbrev pub intervalOf : (k : Kind) → Bool → ℕ → Ends k → Location
+intervalOf k sure at (one p) = record { certain = sure; start = positionOf k at p; end = positionOf k at p }
+intervalOf k sure at (two p q) = record { certain = sure; start = positionOf k at p; end = positionOf k (at + length (printPosition k p) + 1) q }
+
+abbrev pub locationOf : (k : Kind) → ℕ → B.Location k → Location
+locationOf k at (certain i) = intervalOf k true at i
+locationOf k at (uncertain i) = intervalOf k false (at + 1) i
+
+abbrev pub uncertainOf : Location → Location
+uncertainOf l = record { certain = false; start = l .start; end = l .end }
+
+unfoldable pub intervalAnswer : (k : Kind) → ℕ → Option (Ends k) → LocationRead
+intervalAnswer k at none = LR.Nothing
+intervalAnswer k at (some i) = LR.Found (intervalOf k true at i) (length (printEnds k i)) (faults (endsNumbers k at i))
+
+unfoldable pub locationAnswer : (k : Kind) → ℕ → Option (B.Location k) → LocationRead
+locationAnswer k at none = LR.Nothing
+locationAnswer k at (some l) = LR.Found (locationOf k at l) (length (printLocation k l)) (faults (muNumbers (endsNumbers k) at l))

@@ -1,0 +1,148 @@
+-- Laws of bodies: what is made of location and edit, and what reading one after the other answers.
+use Prim.Native.Nat.{ℕ, _+_, _-_, _≤_}
+use mathlib.Core.Path.{_≡_, refl, sym, ap, _∙_}
+use mathlib.Core.List.{List, [], _∷_, _++_}
+use mathlib.Core.Option.{Option, none, some}
+use mathlib.Core.Bool.{Bool, true, false, cond}
+use native.Mathlib.Omega.{arith}
+use lib.Dec.{eqb}
+use lib.ListN.{length, take, drop, length-append, length-drop}
+use borrow.Author.Tests.{eq-eqb, ne-eqb}
+use Rattle.texts.specs.Tests.{none-some}
+use Rattle.texts.specs.Slices.{tail-part}
+use Rattle.alphabet.specs.Letters.{nucleotide}
+use Rattle.record.specs.declared.variant.Kind.{Kind}
+use Rattle.record.specs.declared.variant.Kind.the-variants.{Cds, Genome, Mt, Tx, Prot, Rna}
+use Rattle.record.specs.declared.edits.MuNaEdit.{MuNaEdit}
+use Rattle.record.specs.declared.variant.Body.the-variants as Bo
+use Rattle.grammar.specs.Shapes.{Mu, Both, Both.both, printMu}
+use Rattle.grammar.specs.NucleotideEdits.{NaEdit, printNaEdit}
+use Rattle.grammar.specs.Bodies.{Location, printLocation, NaBody, printNaBody}
+use Rattle.grammar.specs.Records.{muNaEditAt, MuIntervalR}
+use Rattle.grammar.specs.Numbers.{muNumbers, endsNumbers, naEditNumbers, naBodyNumbers}
+use Rattle.lang.specs.Lang.{within}
+use Rattle.lang.specs.Whole.{whole, ended}
+use Rattle.lang.specs.BothLang.{parseBoth, first as firstPart, second}
+use Rattle.location.specs.Languages.{locationLang}
+use Rattle.na_edits.specs.Alphabet.{nucleotides}
+use Rattle.na_edits.specs.Brackets.{muNaEditLang}
+use Rattle.bodies.specs.NaBodies.{naBodyLang}
+use Rattle.scan.specs.declared.Faults.{Faults}
+use Rattle.scan.specs.Faults.{faults, first, faults-append}
+use Rattle.read_location.specs.declared.Location as Raw
+use Rattle.read_location.specs.declared.LocationRead.the-variants as LR
+use Rattle.read_location.specs.Answer.{locationOf, locationAnswer}
+use Rattle.read_location.specs.Records.{locationFor}
+use Rattle.read_na_edit.specs.declared.MuNaEditRead.the-variants as ER
+use Rattle.read_na_edit.specs.Answer.{muNaEditAnswer}
+use Rattle.read_na_body.specs.declared.BodyRead.{BodyRead}
+use Rattle.read_na_body.specs.declared.BodyRead.the-variants.{Nothing, Found}
+use Rattle.read_na_body.specs.Answer.{locEdit, naBodyOf, naAnswer}
+
+-- ---- the body of each kind
+module _ (l : Raw.Location) (e : MuNaEdit) where
+  pub made-cds : (kind : Kind) (m : MuIntervalR Cds) → kind ≡ Cds → m ≡ locationFor Cds l → Bo.Cds (record { loc = m; edit = e }) ≡ locEdit kind l e
+  made-cds kind m p q = rw (p, q)
+
+  pub made-genome : (kind : Kind) (m : MuIntervalR Genome) → kind ≡ Genome → m ≡ locationFor Genome l → Bo.Genome (record { loc = m; edit = e }) ≡ locEdit kind l e
+  made-genome kind m p q = rw (p, q)
+
+  pub made-mt : (kind : Kind) (m : MuIntervalR Mt) → kind ≡ Mt → m ≡ locationFor Mt l → Bo.Mt (record { loc = m; edit = e }) ≡ locEdit kind l e
+  made-mt kind m p q = rw (p, q)
+
+  pub made-tx : (kind : Kind) (m : MuIntervalR Tx) → kind ≡ Tx → m ≡ locationFor Tx l → Bo.Tx (record { loc = m; edit = e }) ≡ locEdit kind l e
+  made-tx kind m p q = rw (p, q)
+
+  pub made-rna : (kind : Kind) (m : MuIntervalR Rna) → kind ≡ Rna → m ≡ locationFor Rna l → Bo.Rna (record { loc = m; edit = e }) ≡ locEdit kind l e
+  made-rna kind m p q = rw (p, q)
+
+-- ---- a location, and behind it an edit
+pub record LocationTold (k : Kind) (at : ℕ) (s : List ℕ) (l : Raw.Location) (n : ℕ) (f : Faults) : Type 0 where
+  pub tree : Location k
+  pub parsed : locationLang k .parse s ≡ some tree
+  pub means : l ≡ locationOf k at tree
+  pub long : n ≡ length (printLocation k tree)
+  pub wrong : f ≡ faults (muNumbers (endsNumbers k) at tree)
+
+pub record EditTold (at : ℕ) (s : List ℕ) (e : MuNaEdit) (n : ℕ) (f : Faults) : Type 0 where
+  pub tree : Mu NaEdit
+  pub parsed : muNaEditLang nucleotide nucleotides .parse s ≡ some tree
+  pub means : e ≡ muNaEditAt at tree
+  pub long : n ≡ length (printMu printNaEdit tree)
+  pub wrong : f ≡ faults (muNumbers naEditNumbers at tree)
+
+pub location-told : (k : Kind) (at : ℕ) (s : List ℕ) (l : Raw.Location) (n : ℕ) (f : Faults) → LR.Found l n f ≡ locationAnswer k at (locationLang k .parse s) → LocationTold k at s l n f
+unfolding locationAnswer
+location-told k at s l n f h = go (locationLang k .parse s) refl h
+  where
+    go : (o : Option (Location k)) → locationLang k .parse s ≡ o → LR.Found l n f ≡ locationAnswer k at o → LocationTold k at s l n f
+    go none q e = absurd (let z : _≡_ {A = ℕ} 0 1 = cc in omega arith)
+    go (some t) q e = record { tree = t; parsed = q; means = cc; long = cc; wrong = cc }
+
+pub location-none : (k : Kind) (at : ℕ) (s : List ℕ) → LR.Nothing ≡ locationAnswer k at (locationLang k .parse s) → locationLang k .parse s ≡ none
+unfolding locationAnswer
+location-none k at s h = go (locationLang k .parse s) refl h
+  where
+    go : (o : Option (Location k)) → locationLang k .parse s ≡ o → LR.Nothing ≡ locationAnswer k at o → locationLang k .parse s ≡ none
+    go none q e = q
+    go (some t) q e = absurd (let z : _≡_ {A = ℕ} 0 1 = cc in omega arith)
+
+pub edit-told : (at : ℕ) (s : List ℕ) (e : MuNaEdit) (n : ℕ) (f : Faults) → ER.Found e n f ≡ muNaEditAnswer at (muNaEditLang nucleotide nucleotides .parse s) → EditTold at s e n f
+unfolding muNaEditAnswer
+edit-told at s d n f h = go (muNaEditLang nucleotide nucleotides .parse s) refl h
+  where
+    go : (o : Option (Mu NaEdit)) → muNaEditLang nucleotide nucleotides .parse s ≡ o → ER.Found d n f ≡ muNaEditAnswer at o → EditTold at s d n f
+    go none q e = absurd (let z : _≡_ {A = ℕ} 0 1 = cc in omega arith)
+    go (some t) q e = record { tree = t; parsed = q; means = cc; long = cc; wrong = cc }
+
+pub edit-none : (at : ℕ) (s : List ℕ) → ER.Nothing ≡ muNaEditAnswer at (muNaEditLang nucleotide nucleotides .parse s) → muNaEditLang nucleotide nucleotides .parse s ≡ none
+unfolding muNaEditAnswer
+edit-none at s h = go (muNaEditLang nucleotide nucleotides .parse s) refl h
+  where
+    go : (o : Option (Mu NaEdit)) → muNaEditLang nucleotide nucleotides .parse s ≡ o → ER.Nothing ≡ muNaEditAnswer at o → muNaEditLang nucleotide nucleotides .parse s ≡ none
+    go none q e = q
+    go (some t) q e = absurd (let z : _≡_ {A = ℕ} 0 1 = cc in omega arith)
+
+module _ (k : Kind) (at : ℕ) (s : List ℕ) where
+  abbrev pub answer : BodyRead
+  answer = naAnswer k at (whole (naBodyLang nucleotide nucleotides k) s)
+
+  pub no-location : locationLang k .parse s ≡ none → Nothing ≡ answer
+  unfolding naAnswer whole parseBoth
+  no-location e = rw e
+
+  module _ {l : Raw.Location} {n : ℕ} {f : Faults} (x : LocationTold k at s l n f) where
+    pub location-le : n ≤ length s
+    location-le = rw (x .long) (within (locationLang k) s (x .tree) (x .parsed))
+
+    -- what is behind the location
+    rest : take (length s - n) (drop n s) ≡ drop (length (printLocation k (x .tree))) s
+    rest = tail-part n s ∙ ap (λ (i : ℕ). drop i s) (x .long)
+
+    pub no-edit : muNaEditLang nucleotide nucleotides .parse (take (length s - n) (drop n s)) ≡ none → Nothing ≡ answer
+    unfolding naAnswer whole parseBoth
+    no-edit e = rw (x .parsed, rw rest at e)
+
+    module _ {d : MuNaEdit} {m : ℕ} {g : Faults} (y : EditTold (at + n) (take (length s - n) (drop n s)) d m g) where
+      pub edit-le : n + m ≤ length s
+      edit-le =
+          let h = within (muNaEditLang nucleotide nucleotides) (take (length s - n) (drop n s)) (y .tree) (y .parsed) in
+          omega (arith, y .long, ap length (tail-part n s), length-drop n s, location-le)
+
+      both-long : length (printNaBody k (both (x .tree) (y .tree))) ≡ n + m
+      both-long = length-append (printLocation k (x .tree)) (printMu printNaEdit (y .tree)) ∙ rw (x .long, y .long)
+
+      found : parseBoth (locationLang k) (muNaEditLang nucleotide nucleotides) s ≡ some (both (x .tree) (y .tree))
+      unfolding parseBoth
+      found = rw (x .parsed, rw rest at (y .parsed))
+
+      pub not-ended : (n + m ≡ length s → ⊥) → Nothing ≡ answer
+      unfolding naAnswer whole
+      not-ended h = rw (found, both-long, ne-eqb (n + m) (length s) h)
+
+      pub body-found : n + m ≡ length s → (b : _) (w : Faults) → b ≡ locEdit k l d → w ≡ first f g → Found b w ≡ answer
+      unfolding naAnswer whole
+      body-found h b w p q =
+          let u : b ≡ naBodyOf k at (both (x .tree) (y .tree)) = p ∙ rw (x .means, y .means, x .long) in
+          let v : w ≡ faults (naBodyNumbers k at (both (x .tree) (y .tree))) = q ∙ rw (x .wrong, y .wrong, x .long) (sym (faults-append (muNumbers (endsNumbers k) at (x .tree)) (muNumbers naEditNumbers (at + length (printLocation k (x .tree))) (y .tree)))) in
+          rw (found, both-long, eq-eqb (n + m) (length s) h, u, v)

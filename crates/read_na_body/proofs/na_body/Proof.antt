@@ -1,0 +1,90 @@
+-- `read_na_body::na_body` meets its contract.
+use Prim.Native.Nat.{_+_, _-_, _≤_}
+use mathlib.Core.Path.{_≡_, sym, _∙_}
+use native.Mathlib.Omega.{arith}
+use lib.ListN.{length, take, drop}
+use Rattle.read_location.proofs.Positions.{room}
+use Rattle.read_na_body.proofs.Laws.{LocationTold, EditTold, location-told, location-none, edit-told, edit-none, no-location, location-le, no-edit, edit-le, not-ended, body-found}
+use borrow.Author.Needs.{needs}
+use Rattle.read_na_body.proofs.na_body.Statement.{statement}
+use Rattle.read_na_body.proofs.na_body.Tie as tie
+
+-- the location at the front, and the edit behind it
+loc : (c : tie.After-l) → LocationTold (c .before .before .before .before .args .kind) (c .before .before .before .before .args .at) (c .before .before .before .before .args .s .now) (c .l .given .0 .0) (c .l .given .0 .1 .0) (c .l .given .0 .1 .1 .0)
+loc c = location-told _ _ _ _ _ _ (sym (c .l .given .1) ∙ c .before .before .location-at .ensures)
+
+edit : (c : tie.After-edit) → EditTold (c .before .before .before .before .before .before .before .before .before .args .at + c .before .before .before .before .before .l .given .0 .1 .0) (take (length (c .before .before .before .before .before .before .before .before .before .args .s .now) - c .before .before .before .before .before .l .given .0 .1 .0) (drop (c .before .before .before .before .before .l .given .0 .1 .0) (c .before .before .before .before .before .before .before .before .before .args .s .now))) (c .edit .given .0 .0) (c .edit .given .0 .1 .0) (c .edit .given .0 .1 .1 .0)
+edit c = edit-told _ _ _ _ _ (sym (c .edit .given .1) ∙ c .before .before .mu-na-edit-at .ensures)
+
+location-at-requires : tie.Need-location-at-requires
+location-at-requires c κs = search needs
+
+enum-known-l : tie.Need-enum-known-l
+enum-known-l c = search needs
+
+enum-told : tie.Need-enum-told
+enum-told c = search needs
+
+returns : tie.Need-returns
+returns c = no-location _ _ _ (location-none _ _ _ (sym (c .enum-told .given .1) ∙ c .before .before .location-at .ensures))
+
+sub-mu-na-edit-at : tie.Need-sub-mu-na-edit-at
+sub-mu-na-edit-at c = location-le _ _ _ (loc (c .before))
+
+part-mu-na-edit-at-start : tie.Need-part-mu-na-edit-at-start
+part-mu-na-edit-at-start c = location-le _ _ _ (loc (c .before))
+
+part-mu-na-edit-at-end : tie.Need-part-mu-na-edit-at-end
+part-mu-na-edit-at-end c = search needs
+
+add-mu-na-edit-at : tie.Need-add-mu-na-edit-at
+add-mu-na-edit-at c = omega (arith, location-le _ _ _ (loc (c .before .before)), c .before .before .before .before .before .before .pre)
+
+mu-na-edit-at-requires : tie.Need-mu-na-edit-at-requires
+mu-na-edit-at-requires c κs = room _ _ (c .before .before .before .before .before .before .args .s .now) (c .before .before .before .before .before .before .pre) (location-le _ _ _ (loc (c .before .before)))
+
+enum-known-edit : tie.Need-enum-known-edit
+enum-known-edit c = search needs
+
+enum-told-2 : tie.Need-enum-told-2
+enum-told-2 c = search needs
+
+returns-2 : tie.Need-returns-2
+returns-2 c = no-edit _ _ _ (loc (c .before .before .before .before .before)) (edit-none _ _ (sym (c .enum-told2 .given .1) ∙ c .before .before .mu-na-edit-at .ensures))
+
+add-if1 : tie.Need-add-if1
+add-if1 c = omega (arith, edit-le _ _ _ (loc (c .before .before .before .before .before .before)) (edit (c .before)))
+
+returns-3 : tie.Need-returns-3
+returns-3 c = not-ended _ _ _ (loc (c .before .before .before .before .before .before .before)) (edit (c .before .before)) (c .if1 .taken)
+
+loc-edit-requires : tie.Need-loc-edit-requires
+loc-edit-requires c κs = search needs
+
+leftmost-requires : tie.Need-leftmost-requires
+leftmost-requires c κs = search needs
+
+returns-4 : tie.Need-returns-4
+returns-4 c = body-found _ _ _ (loc (c .before .before .before .before .before .before .before .before .before)) (edit (c .before .before .before .before)) (c .before .before .if1 .left) _ _ (c .before .loc-edit .ensures) (c .leftmost .ensures)
+
+pub na-body-spec : {M : Type 1} → statement M
+na-body-spec =
+    tie.close
+    (tie.spec
+    location-at-requires
+    enum-known-l
+    enum-told
+    returns
+    sub-mu-na-edit-at
+    part-mu-na-edit-at-start
+    part-mu-na-edit-at-end
+    add-mu-na-edit-at
+    mu-na-edit-at-requires
+    enum-known-edit
+    enum-told-2
+    returns-2
+    add-if1
+    returns-3
+    loc-edit-requires
+    leftmost-requires
+    returns-4)

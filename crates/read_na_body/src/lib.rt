@@ -1,0 +1,73 @@
+// Reading a body of c, g, m, n or r: location and edit, up to the end of the text.
+use read_location::Location;
+use read_location::LocationRead;
+use read_na_edit::MuNaEditRead;
+use record::edits::MuNaEdit;
+use record::variant::Body;
+use record::variant::CdsLocEdit;
+use record::variant::GenomeLocEdit;
+use record::variant::Kind;
+use record::variant::MtLocEdit;
+use record::variant::ProtLocEdit;
+use record::variant::RnaLocEdit;
+use record::variant::TxLocEdit;
+use scan::Faults;
+ghost use mathlib.Core.Path.{_≡_};
+ghost use Prim.Native.Nat.{_+_, _≤_};
+ghost use lib.ListN.{length};
+ghost use Rattle.alphabet.specs.Letters.{nucleotide};
+ghost use Rattle.lang.specs.Whole.{whole};
+ghost use Rattle.na_edits.specs.Alphabet.{nucleotides};
+ghost use Rattle.bodies.specs.NaBodies.{naBodyLang};
+ghost use Rattle.read_na_body.specs.Answer.{locEdit, naAnswer};
+
+// A body that stands up to the end of the text, and what is wrong with its numbers.
+pub enum BodyRead {
+    Nothing,
+    Found(Body, Faults),
+}
+
+// The body of a nucleotide kind. A body of p has another form: what stands here for it is never read.
+fn loc_edit(kind: Kind, l: Location, edit: MuNaEdit) -> Body
+    ensures { λ r. ⌜ r ≡ locEdit kind l edit ⌝ }
+{
+    match kind {
+        Kind::Cds => {
+            let loc = read_location::cds_interval(l);
+            Body::Cds(CdsLocEdit { loc, edit })
+        }
+        Kind::Genome => {
+            let loc = read_location::genome_interval(l);
+            Body::Genome(GenomeLocEdit { loc, edit })
+        }
+        Kind::Mt => {
+            let loc = read_location::mt_interval(l);
+            Body::Mt(MtLocEdit { loc, edit })
+        }
+        Kind::Tx => {
+            let loc = read_location::tx_interval(l);
+            Body::Tx(TxLocEdit { loc, edit })
+        }
+        Kind::Prot => Body::Prot(ProtLocEdit::Unknown),
+        Kind::Rna => {
+            let loc = read_location::rna_interval(l);
+            Body::Rna(RnaLocEdit { loc, edit })
+        }
+    }
+}
+
+pub fn na_body(kind: Kind, s: &[u8], at: usize) -> BodyRead
+    requires { ⌜ at + length (now s) ≤ 4096 ⌝ }
+    ensures { λ r. ⌜ r ≡ naAnswer kind at (whole (naBodyLang nucleotide nucleotides kind) (now (s .entry))) ⌝ }
+{
+    let LocationRead::Found(l, n, faults) = read_location::location_at(kind, s, at) else {
+        return BodyRead::Nothing;
+    };
+    let MuNaEditRead::Found(edit, m, later) = read_na_edit::mu_na_edit_at(&s[n..], at + n) else {
+        return BodyRead::Nothing;
+    };
+    if n + m != s.len() {
+        return BodyRead::Nothing;
+    }
+    BodyRead::Found(loc_edit(kind, l, edit), scan::leftmost(faults, later))
+}

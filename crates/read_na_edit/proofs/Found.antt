@@ -1,0 +1,92 @@
+-- The answer for a tree, from what was counted.
+use Prim.Native.Nat.{ℕ, _+_, _≤_}
+use mathlib.Core.Path.{_≡_, refl, sym, ap, _∙_}
+use mathlib.Core.List.{List, [], _∷_, _++_}
+use mathlib.Core.Option.{some}
+use native.Mathlib.Omega.{arith}
+use mir.Syntax.{w32}
+use mir.Val.{toZ, ofZ}
+use lib.IntN.{ℤ}
+use lib.ListN.{length, length-append}
+use Rattle.texts.specs.Runs.{run, front, run-le, front-length}
+use Rattle.alphabet.specs.Letters.{digit}
+use Rattle.number.specs.Digits.{val}
+use Rattle.number.specs.Reading.{numberOf, numberAt}
+use Rattle.number.specs.Signs.{saturated-held}
+use Rattle.number.specs.declared.Number.{Number}
+use Rattle.number.specs.declared.Sign.the-variants.{Plain}
+use Rattle.record.specs.declared.spans.Span.{Span}
+use Rattle.record.specs.declared.edits.NaEdit as D
+use Rattle.record.specs.declared.edits.NaEdit.the-variants.{RefAlt, NumAlt}
+use Rattle.grammar.specs.NucleotideEdits.{NaEdit, NaEdit.equal, NaEdit.swap, NaEdit.delIns, NaEdit.delNumIns, printNaEdit}
+use Rattle.grammar.specs.Meaning.{number}
+use Rattle.grammar.specs.Records.{span, spanOf, naEditAt}
+use Rattle.grammar.specs.Numbers.{Numeral.numeral, naEditNumbers}
+use Rattle.scan.specs.Faults.{faults, none, unfitUnless, faults-nil, faults-one}
+use Rattle.scan.specs.declared.Faults.{Faults}
+use Rattle.read_na_edit.specs.declared.NaEditRead.the-variants.{Found}
+use Rattle.read_na_edit.specs.Answer.{naEditAnswer}
+
+module _ (k : ℕ) (t : NaEdit) (r : D.NaEdit) (n : ℕ) (f : Faults) (er : r ≡ naEditAt k t) (en : n ≡ length (printNaEdit t)) where
+  found : f ≡ faults (naEditNumbers k t) → Found r n f ≡ naEditAnswer k (some t)
+  unfolding naEditAnswer
+  found ef = rw (er, en, ef)
+
+  -- a tree without numbers
+  found-plain : naEditNumbers k t ≡ [] → f ≡ none → Found r n f ≡ naEditAnswer k (some t)
+  found-plain e ef = found (ef ∙ sym faults-nil ∙ ap faults (sym e))
+
+module _ (k : ℕ) (f : Faults) (ef : f ≡ none) where
+  pub found-equal : (m : ℕ) (a : List ℕ) (p : Span) → m ≡ length a → p ≡ span k m → Found (RefAlt p p) (m + 1) f ≡ naEditAnswer k (some (equal a))
+  found-equal m a p em ep =
+      let h : p ≡ spanOf k a = ep ∙ ap (span k) em in
+      found-plain k (equal a) (RefAlt p p) (m + 1) f (rw h) (rw length-append (omega arith)) refl ef
+
+  pub found-swap : (x y : ℕ) (p q : Span) → p ≡ span k 1 → q ≡ span (k + 2) 1 → Found (RefAlt p q) 3 f ≡ naEditAnswer k (some (swap x y))
+  found-swap x y p q ep eq = found-plain k (swap x y) (RefAlt p q) 3 f (rw (ep, eq)) refl refl ef
+
+  -- m letters a behind a word of three letters, and their span p
+  module _ (m : ℕ) (a : List ℕ) (p : Span) (em : m ≡ length a) (ep : p ≡ span (k + 3) m) where
+    pub found-word : (made : Span → D.NaEdit) (t : NaEdit) (w : List ℕ) → length w ≡ 3 → printNaEdit t ≡ w ++ a → naEditAt k t ≡ made (spanOf (k + 3) a) → naEditNumbers k t ≡ [] → Found (made p) (3 + m) f ≡ naEditAnswer k (some t)
+    found-word made t w l et er en =
+        let h : p ≡ spanOf (k + 3) a = ep ∙ ap (span (k + 3)) em in
+        found-plain k t (made p) (3 + m) f (rw (h, er)) (rw (et, length-append, l, em)) en ef
+
+    pub found-del-ins : (n : ℕ) (b : List ℕ) (q : Span) → n ≡ length b → q ≡ span (k + 3 + m + 3) n → Found (RefAlt p q) (3 + m + 3 + n) f ≡ naEditAnswer k (some (delIns a b))
+    found-del-ins n b q en eq =
+        let h : p ≡ spanOf (k + 3) a = ep ∙ ap (span (k + 3)) em in
+        let i : q ≡ spanOf (k + 3 + length a + 3) b = rw (eq, em, en) in
+        let l : 3 + m + 3 + n ≡ length (printNaEdit (delIns a b)) = simp length-append (omega arith) in
+        found-plain k (delIns a b) (RefAlt p q) (3 + m + 3 + n) f (rw (h, i)) l refl ef
+
+-- ---- the number n that stands at the front of s
+module _ (s : List ℕ) (n : Number) (e : n ≡ numberAt Plain s) where
+  pub len-run : n .len ≡ run digit s
+  unfolding numberAt numberOf
+  len-run = rw e
+
+  pub len-is : n .len ≡ length (front digit s)
+  len-is = len-run ∙ sym (front-length digit s)
+
+  pub len-le : n .len ≤ length s
+  len-le = omega (arith, len-run, run-le digit s)
+
+  value-is : toZ w32 (ofZ w32 (n .value)) ≡ number Plain (front digit s)
+  unfolding numberAt numberOf
+  value-is = rw e (saturated-held Plain (val (front digit s)))
+
+  -- behind a word of three letters
+  module _ (k : ℕ) (f : Faults) (ef : f ≡ unfitUnless (n .fits) (k + 3)) where
+    faults-are : f ≡ faults (numeral (k + 3) Plain (front digit s) ∷ [])
+    unfolding numberAt numberOf
+    faults-are = rw (faults-one, ef, e)
+
+    pub found-number : (made : ℤ → D.NaEdit) (t : NaEdit) (w : List ℕ) → length w ≡ 3 → printNaEdit t ≡ w ++ front digit s → naEditAt k t ≡ made (number Plain (front digit s)) → naEditNumbers k t ≡ numeral (k + 3) Plain (front digit s) ∷ [] → Found (made (toZ w32 (ofZ w32 (n .value)))) (3 + n .len) f ≡ naEditAnswer k (some t)
+    found-number made t w l et er en =
+        found k t (made (toZ w32 (ofZ w32 (n .value)))) (3 + n .len) f (rw (value-is, er)) (rw (et, length-append, l, len-is)) (faults-are ∙ ap faults (sym en))
+
+    pub found-num-ins : (m : ℕ) (b : List ℕ) (q : Span) → m ≡ length b → q ≡ span (k + 3 + n .len + 3) m → Found (NumAlt (toZ w32 (ofZ w32 (n .value))) q) (3 + n .len + 3 + m) f ≡ naEditAnswer k (some (delNumIns (front digit s) b))
+    found-num-ins m b q em eq =
+        let h : q ≡ spanOf (k + 3 + length (front digit s) + 3) b = rw (eq, len-is, em) in
+        let l : 3 + n .len + 3 + m ≡ length (printNaEdit (delNumIns (front digit s) b)) = simp length-append (omega (arith, len-is)) in
+        found k (delNumIns (front digit s) b) (NumAlt (toZ w32 (ofZ w32 (n .value))) q) (3 + n .len + 3 + m) f (rw (value-is, h)) l faults-are

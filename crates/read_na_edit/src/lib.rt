@@ -1,0 +1,242 @@
+// Reading a nucleotide edit, which is certain, or uncertain when in round brackets.
+use alphabet::Class;
+use number::Number;
+use number::Sign;
+use record::edits::MuNaEdit;
+use record::edits::NaEdit;
+use scan::Faults;
+ghost use mathlib.Core.Path.{_≡_};
+ghost use mathlib.Core.Option.{some};
+ghost use Prim.Native.Nat.{_+_, _≤_};
+ghost use lib.ListN.{length};
+ghost use Rattle.texts.specs.Runs.{front, behind};
+ghost use Rattle.alphabet.specs.Letters.{digit, nucleotide};
+ghost use Rattle.number.specs.declared.Sign.the-variants.{Plain};
+ghost use Rattle.number.specs.Reading.{numberAt};
+ghost use Rattle.na_edits.specs.Alphabet.{nucleotides};
+ghost use Rattle.na_edits.specs.Parse.{parseIdent, parseSubst, inserted as insertedLetters, afterDelNum, afterDel, afterInv, parseDel, parseIns, parseDup, parseInv};
+ghost use Rattle.na_edits.specs.Sound.{naEditLang};
+ghost use Rattle.na_edits.specs.Brackets.{muNaEditLang};
+ghost use Rattle.read_na_edit.specs.Answer.{naEditAnswer, muNaEditAnswer};
+
+// What stands at the front of a text: the edit, the length of its text, and what is wrong with it.
+pub enum NaEditRead {
+    Nothing,
+    Found(NaEdit, usize, Faults),
+}
+
+pub enum MuNaEditRead {
+    Nothing,
+    Found(MuNaEdit, usize, Faults),
+}
+
+// In each routine `at` is where the edit starts in the whole text.
+
+// seq `=`
+fn ident(s: &[u8], at: usize) -> NaEditRead
+    requires { ⌜ at + length (now s) ≤ 4096 ⌝ }
+    ensures { λ r. ⌜ r ≡ naEditAnswer at (parseIdent nucleotide (now (s .entry))) ⌝ }
+{
+    let m = alphabet::run_of(Class::Nucleotide, s);
+    if scan::begins(&s[m..], b"=") {
+        let seq = scan::span(at, m);
+        return NaEditRead::Found(NaEdit::RefAlt(seq, seq), m + 1, scan::no_faults());
+    }
+    NaEditRead::Nothing
+}
+
+// letter `>` letter
+fn subst(s: &[u8], at: usize) -> NaEditRead
+    requires { ⌜ at + length (now s) ≤ 4096 ⌝ }
+    ensures { λ r. ⌜ r ≡ naEditAnswer at (parseSubst nucleotide (now (s .entry))) ⌝ }
+{
+    if s.len() < 3 {
+        return NaEditRead::Nothing;
+    }
+    if s[1] != b'>' {
+        return NaEditRead::Nothing;
+    }
+    if !alphabet::is_in(Class::Nucleotide, s[0]) {
+        return NaEditRead::Nothing;
+    }
+    if !alphabet::is_in(Class::Nucleotide, s[2]) {
+        return NaEditRead::Nothing;
+    }
+    NaEditRead::Found(
+        NaEdit::RefAlt(scan::span(at, 1), scan::span(at + 2, 1)),
+        3,
+        scan::no_faults(),
+    )
+}
+
+// How many letters stand behind `ins`; 0 where there is no `ins`.
+fn inserted(s: &[u8]) -> usize
+    ensures { λ r. ⌜ r ≡ length (insertedLetters nucleotide (now (s .entry))) ⌝ }
+{
+    if scan::begins(s, b"ins") {
+        return alphabet::run_of(Class::Nucleotide, &s[3..]);
+    }
+    0
+}
+
+// Behind `del`, where the number n stands: `ins` seq1, or nothing.
+fn after_del_num(s: &[u8], at: usize, n: Number) -> NaEditRead
+    requires { ⌜ (at + 3 + length (now s) ≤ 4096) × (n ≡ numberAt Plain (now s)) ⌝ }
+    ensures { λ r. ⌜ r ≡ naEditAnswer at (some (afterDelNum nucleotide (front digit (now (s .entry))) (behind digit (now (s .entry))))) ⌝ }
+{
+    let len = n.len;
+    let b = inserted(&s[len..]);
+    let faults = scan::faults_of(at + 3, n);
+    if b == 0 {
+        return NaEditRead::Found(NaEdit::DelNum(n.value), 3 + len, faults);
+    }
+    NaEditRead::Found(
+        NaEdit::NumAlt(n.value, scan::span(at + 3 + len + 3, b)),
+        3 + len + 3 + b,
+        faults,
+    )
+}
+
+// Behind `del`: seq `ins` seq1, digits `ins` seq1, digits, or seq.
+fn after_del(s: &[u8], at: usize) -> NaEditRead
+    requires { ⌜ at + 3 + length (now s) ≤ 4096 ⌝ }
+    ensures { λ r. ⌜ r ≡ naEditAnswer at (some (afterDel nucleotide (now (s .entry)))) ⌝ }
+{
+    let m = alphabet::run_of(Class::Nucleotide, s);
+    let b = inserted(&s[m..]);
+    if b != 0 {
+        return NaEditRead::Found(
+            NaEdit::RefAlt(scan::span(at + 3, m), scan::span(at + 3 + m + 3, b)),
+            3 + m + 3 + b,
+            scan::no_faults(),
+        );
+    }
+    let n = number::number_at(s, Sign::Plain);
+    if n.len != 0 {
+        return after_del_num(s, at, n);
+    }
+    NaEditRead::Found(
+        NaEdit::DelRef(scan::span(at + 3, m)),
+        3 + m,
+        scan::no_faults(),
+    )
+}
+
+fn del(s: &[u8], at: usize) -> NaEditRead
+    requires { ⌜ at + length (now s) ≤ 4096 ⌝ }
+    ensures { λ r. ⌜ r ≡ naEditAnswer at (parseDel nucleotide (now (s .entry))) ⌝ }
+{
+    if scan::begins(s, b"del") {
+        return after_del(&s[3..], at);
+    }
+    NaEditRead::Nothing
+}
+
+// `ins` seq1
+fn ins(s: &[u8], at: usize) -> NaEditRead
+    requires { ⌜ at + length (now s) ≤ 4096 ⌝ }
+    ensures { λ r. ⌜ r ≡ naEditAnswer at (parseIns nucleotide (now (s .entry))) ⌝ }
+{
+    let m = inserted(s);
+    if m == 0 {
+        return NaEditRead::Nothing;
+    }
+    NaEditRead::Found(NaEdit::Ins(scan::span(at + 3, m)), 3 + m, scan::no_faults())
+}
+
+// `dup` seq
+fn dup(s: &[u8], at: usize) -> NaEditRead
+    requires { ⌜ at + length (now s) ≤ 4096 ⌝ }
+    ensures { λ r. ⌜ r ≡ naEditAnswer at (parseDup nucleotide (now (s .entry))) ⌝ }
+{
+    if scan::begins(s, b"dup") {
+        let m = alphabet::run_of(Class::Nucleotide, &s[3..]);
+        return NaEditRead::Found(NaEdit::Dup(scan::span(at + 3, m)), 3 + m, scan::no_faults());
+    }
+    NaEditRead::Nothing
+}
+
+// Behind `inv`: digits, or seq.
+fn after_inv(s: &[u8], at: usize) -> NaEditRead
+    requires { ⌜ at + 3 + length (now s) ≤ 4096 ⌝ }
+    ensures { λ r. ⌜ r ≡ naEditAnswer at (some (afterInv nucleotide (now (s .entry)))) ⌝ }
+{
+    let n = number::number_at(s, Sign::Plain);
+    let len = n.len;
+    if len != 0 {
+        return NaEditRead::Found(NaEdit::InvNum(n.value), 3 + len, scan::faults_of(at + 3, n));
+    }
+    let m = alphabet::run_of(Class::Nucleotide, s);
+    NaEditRead::Found(
+        NaEdit::InvRef(scan::span(at + 3, m)),
+        3 + m,
+        scan::no_faults(),
+    )
+}
+
+fn inv(s: &[u8], at: usize) -> NaEditRead
+    requires { ⌜ at + length (now s) ≤ 4096 ⌝ }
+    ensures { λ r. ⌜ r ≡ naEditAnswer at (parseInv nucleotide (now (s .entry))) ⌝ }
+{
+    if scan::begins(s, b"inv") {
+        return after_inv(&s[3..], at);
+    }
+    NaEditRead::Nothing
+}
+
+// The edit at the front of s: the alternatives in the crate's order.
+pub fn na_edit_at(s: &[u8], at: usize) -> NaEditRead
+    requires { ⌜ at + length (now s) ≤ 4096 ⌝ }
+    ensures { λ r. ⌜ r ≡ naEditAnswer at (naEditLang nucleotide nucleotides .parse (now (s .entry))) ⌝ }
+{
+    let first = ident(s, at);
+    let NaEditRead::Nothing = first else {
+        return first;
+    };
+    let second = subst(s, at);
+    let NaEditRead::Nothing = second else {
+        return second;
+    };
+    let third = del(s, at);
+    let NaEditRead::Nothing = third else {
+        return third;
+    };
+    let fourth = ins(s, at);
+    let NaEditRead::Nothing = fourth else {
+        return fourth;
+    };
+    let fifth = dup(s, at);
+    let NaEditRead::Nothing = fifth else {
+        return fifth;
+    };
+    inv(s, at)
+}
+
+// The edit at the front of s, in round brackets or not.
+pub fn mu_na_edit_at(s: &[u8], at: usize) -> MuNaEditRead
+    requires { ⌜ at + length (now s) ≤ 4096 ⌝ }
+    ensures { λ r. ⌜ r ≡ muNaEditAnswer at (muNaEditLang nucleotide nucleotides .parse (now (s .entry))) ⌝ }
+{
+    if scan::begins(s, b"(") {
+        match na_edit_at(&s[1..], at + 1) {
+            NaEditRead::Nothing => MuNaEditRead::Nothing,
+            NaEditRead::Found(e, len, faults) => {
+                let k = 1 + len;
+                if scan::begins(&s[k..], b")") {
+                    MuNaEditRead::Found(MuNaEdit::Uncertain(e), k + 1, faults)
+                } else {
+                    MuNaEditRead::Nothing
+                }
+            }
+        }
+    } else {
+        match na_edit_at(s, at) {
+            NaEditRead::Nothing => MuNaEditRead::Nothing,
+            NaEditRead::Found(e, len, faults) => MuNaEditRead::Found(
+                MuNaEdit::Certain(e),
+                len,
+                faults,
+            ),
+        }
+    }
+}

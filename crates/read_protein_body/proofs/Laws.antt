@@ -1,0 +1,330 @@
+-- Laws of protein bodies: what reading a location and an edit one after the other answers.
+use Prim.Native.Nat.{ℕ, _+_, _-_, _≤_}
+use mathlib.Core.Path.{_≡_, refl, sym, ap, _∙_}
+use mathlib.Core.List.{List, [], _∷_, _++_}
+use mathlib.Core.Option.{Option, none, some}
+use mathlib.Core.Bool.{Bool, true, false, cond}
+use native.Mathlib.Omega.{arith}
+use lib.Dec.{eqb}
+use lib.ListN.{length, take, drop, length-append, length-drop}
+use lib.Seq.{drop-drop}
+use borrow.Author.Tests.{eq-eqb, ne-eqb}
+use Rattle.texts.specs.Ascii.{ascii}
+use Rattle.texts.specs.Slices.{tail-part}
+use Rattle.texts.specs.Words.{starts, starts-length, same, same-starts, same-lengths}
+use Rattle.record.specs.declared.variant.Kind.the-variants.{Prot}
+use Rattle.record.specs.declared.edits.MuProteinEdit.{MuProteinEdit}
+use Rattle.record.specs.declared.edits.MuProteinEdit.the-variants.{Uncertain}
+use Rattle.record.specs.declared.edits.ProteinEdit as Record
+use Rattle.record.specs.declared.variant.ProtLocEdit.{ProtLocEdit}
+use Rattle.record.specs.declared.variant.ProtLocEdit.the-variants.{Ordinary}
+use Rattle.record.specs.declared.variant.Body.the-variants as Bo
+use Rattle.grammar.specs.Shapes.{Mu, Mu.certain, Mu.uncertain, Both, Both.both, printMu}
+use Rattle.grammar.specs.ProteinEdits.{ProteinEdit, printProteinEdit}
+use Rattle.grammar.specs.Bodies.{Ends, printEnds, ProteinBody, ProteinBody.met1, ProteinBody.bracketedMet1, ProteinBody.noProteinUncertain, ProteinBody.noProtein, ProteinBody.noChangeUncertain, ProteinBody.noChange, ProteinBody.unknown, ProteinBody.change, ProteinBody.bracketed, printProteinBody}
+use Rattle.grammar.specs.Records.{intervalAt, locationAt, uncertainly, proteinEditAt, muProteinEditAt, proteinBodyAt}
+use Rattle.grammar.specs.Numbers.{muNumbers, endsNumbers, proteinEditNumbers, proteinBodyNumbers}
+use Rattle.lang.specs.Lang.{within}
+use Rattle.lang.specs.Canon.{mapO}
+use Rattle.location.specs.Languages.{endsLang}
+use Rattle.protein_edits.specs.Instance.{proteinEditLang, muProteinEditLang}
+use Rattle.bodies.specs.ProteinBodies.{exactBodies, firstExact, onEnds, insideBrackets, afterLocation, closing, parsePlain, parseOpened, parseOrdinary, ended, orNext, parseProteinBody}
+use Rattle.scan.specs.declared.Faults.{Faults}
+use Rattle.scan.specs.Faults.{faults, first, faults-append, faults-nil, none as noFaults}
+use Rattle.read_location.specs.declared.Location.{Location}
+use Rattle.read_location.specs.declared.LocationRead.the-variants as LR
+use Rattle.read_location.specs.Answer.{intervalOf, uncertainOf, intervalAnswer}
+use Rattle.read_location.specs.Records.{locationFor, location-for, uncertain-for}
+use Rattle.read_location.specs.Told.{IntervalTold}
+use Rattle.read_protein_edit.specs.declared.ProteinEditRead.the-variants as PR
+use Rattle.read_protein_edit.specs.declared.MuProteinEditRead.the-variants as MR
+use Rattle.read_protein_edit.specs.Answer.{proteinEditAnswer, muProteinEditAnswer}
+use Rattle.read_na_body.specs.declared.BodyRead.{BodyRead}
+use Rattle.read_na_body.specs.declared.BodyRead.the-variants as BR
+use Rattle.read_na_body.specs.Answer.{bodyAnswer}
+use Rattle.read_protein_body.specs.declared.ExactRead.{ExactRead}
+use Rattle.read_protein_body.specs.declared.ExactRead.the-variants as ER
+use Rattle.read_protein_body.specs.declared.OrdinaryRead.{OrdinaryRead}
+use Rattle.read_protein_body.specs.declared.OrdinaryRead.the-variants as OR
+use Rattle.read_protein_body.specs.Answer.{exactAnswer, ordinaryAnswer, afterAnswer, insideAnswer}
+
+-- ---- the texts without location
+pub is-same : (w s : List ℕ) (t : Bool) → length w ≡ length s → t ≡ starts w s → t ≡ same w s
+is-same w s t l e = e ∙ sym (same-starts w s l)
+
+pub is-other : (w s : List ℕ) → (length w ≡ length s → ⊥) → false ≡ same w s
+is-other w s n = sym (same-lengths w s n)
+
+module _ (b : ProteinBody) (bs : List ProteinBody) (s : List ℕ) where
+  pub this-exact : same (printProteinBody b) s ≡ true → firstExact (b ∷ bs) s ≡ some b
+  unfolding firstExact
+  this-exact e = rw e
+
+  pub next-exact : same (printProteinBody b) s ≡ false → firstExact (b ∷ bs) s ≡ firstExact bs s
+  unfolding firstExact
+  next-exact e = rw e
+
+pub no-exact : (s : List ℕ) → firstExact [] s ≡ none
+unfolding firstExact
+no-exact s = refl
+
+-- ---- the edit that was read
+pub record MuTold (at : ℕ) (s : List ℕ) (d : MuProteinEdit) (n : ℕ) (f : Faults) : Type 0 where
+  pub tree : Mu ProteinEdit
+  pub parsed : muProteinEditLang .parse s ≡ some tree
+  pub means : d ≡ muProteinEditAt at tree
+  pub long : n ≡ length (printMu printProteinEdit tree)
+  pub wrong : f ≡ faults (muNumbers proteinEditNumbers at tree)
+
+pub record EditTold (at : ℕ) (s : List ℕ) (d : Record.ProteinEdit) (n : ℕ) (f : Faults) : Type 0 where
+  pub tree : ProteinEdit
+  pub parsed : proteinEditLang .parse s ≡ some tree
+  pub means : d ≡ proteinEditAt at tree
+  pub long : n ≡ length (printProteinEdit tree)
+  pub wrong : f ≡ faults (proteinEditNumbers at tree)
+
+module _ (at : ℕ) (s : List ℕ) where
+  pub mu-told : (d : MuProteinEdit) (n : ℕ) (f : Faults) → MR.Found d n f ≡ muProteinEditAnswer at (muProteinEditLang .parse s) → MuTold at s d n f
+  unfolding muProteinEditAnswer
+  mu-told d n f h = go (muProteinEditLang .parse s) refl h
+    where
+      go : (o : Option (Mu ProteinEdit)) → muProteinEditLang .parse s ≡ o → MR.Found d n f ≡ muProteinEditAnswer at o → MuTold at s d n f
+      go none q e = absurd (let z : _≡_ {A = ℕ} 0 1 = cc in omega arith)
+      go (some t) q e = record { tree = t; parsed = q; means = cc; long = cc; wrong = cc }
+
+  pub edit-told : (d : Record.ProteinEdit) (n : ℕ) (f : Faults) → PR.Found d n f ≡ proteinEditAnswer at (proteinEditLang .parse s) → EditTold at s d n f
+  unfolding proteinEditAnswer
+  edit-told d n f h = go (proteinEditLang .parse s) refl h
+    where
+      go : (o : Option ProteinEdit) → proteinEditLang .parse s ≡ o → PR.Found d n f ≡ proteinEditAnswer at o → EditTold at s d n f
+      go none q e = absurd (let z : _≡_ {A = ℕ} 0 1 = cc in omega arith)
+      go (some t) q e = record { tree = t; parsed = q; means = cc; long = cc; wrong = cc }
+
+  module _ (l : Location) (n : ℕ) (f : Faults) where
+    pub mu-none : MR.Nothing ≡ muProteinEditAnswer at (muProteinEditLang .parse s) → OR.Nothing ≡ afterAnswer l n f at (muProteinEditLang .parse s)
+    unfolding muProteinEditAnswer
+    mu-none h = go (muProteinEditLang .parse s) h
+      where
+        go : (o : Option (Mu ProteinEdit)) → MR.Nothing ≡ muProteinEditAnswer at o → OR.Nothing ≡ afterAnswer l n f at o
+        go none e = refl
+        go (some t) e = absurd (let z : _≡_ {A = ℕ} 0 1 = cc in omega arith)
+
+    pub edit-none : PR.Nothing ≡ proteinEditAnswer at (proteinEditLang .parse s) → OR.Nothing ≡ insideAnswer l n f at s (proteinEditLang .parse s)
+    unfolding proteinEditAnswer
+    edit-none h = go (proteinEditLang .parse s) h
+      where
+        go : (o : Option ProteinEdit) → PR.Nothing ≡ proteinEditAnswer at o → OR.Nothing ≡ insideAnswer l n f at s o
+        go none e = refl
+        go (some t) e = absurd (let z : _≡_ {A = ℕ} 0 1 = cc in omega arith)
+
+    -- behind a location
+    module _ {d : MuProteinEdit} {m : ℕ} {g : Faults} (y : MuTold at s d m g) where
+      pub mu-le : m ≤ length s
+      mu-le = rw (y .long) (within muProteinEditLang s (y .tree) (y .parsed))
+
+      pub after-found : (p : _) (w : Faults) → p ≡ locationFor Prot l → w ≡ first f g → OR.Found (Ordinary p d) (n + m) w ≡ afterAnswer l n f at (muProteinEditLang .parse s)
+      after-found p w e h =
+          let a = y .means in
+          let b = y .long in
+          let c = y .wrong in
+          rw (y .parsed, e, h, a, b, c)
+
+    -- inside one pair of brackets
+    module _ {d : Record.ProteinEdit} {m : ℕ} {g : Faults} (y : EditTold at s d m g) where
+      pub edit-le : m ≤ length s
+      edit-le = rw (y .long) (within proteinEditLang s (y .tree) (y .parsed))
+
+      shut : take (length s - m) (drop m s) ≡ drop (length (printProteinEdit (y .tree))) s
+      shut = tail-part m s ∙ ap (λ (i : ℕ). drop i s) (y .long)
+
+      pub shut-le : starts (ascii ")") (take (length s - m) (drop m s)) ≡ true → m + 1 ≤ length s
+      shut-le e = omega (arith, starts-length (ascii ")") (take (length s - m) (drop m s)) e, ap length (tail-part m s), length-drop m s, edit-le)
+
+      pub not-shut : starts (ascii ")") (take (length s - m) (drop m s)) ≡ false → OR.Nothing ≡ insideAnswer l n f at s (proteinEditLang .parse s)
+      not-shut e = rw (y .parsed, rw shut at e)
+
+      pub inside-found : starts (ascii ")") (take (length s - m) (drop m s)) ≡ true → (u : Location) (p : _) (w : Faults) → u ≡ uncertainOf l → p ≡ locationFor Prot u → w ≡ first f g
+          → OR.Found (Ordinary p (Uncertain d)) (1 + n + m + 1) w ≡ insideAnswer l n f at s (proteinEditLang .parse s)
+      inside-found q u p w i e h =
+          let a = y .means in
+          let b = y .long in
+          let c = y .wrong in
+          rw (y .parsed, rw shut at q, e, i, h, a, b, c)
+
+-- ---- the interval, and what stands behind it
+module _ (at : ℕ) (s : List ℕ) where
+  pub plain-none : LR.Nothing ≡ intervalAnswer Prot at (endsLang Prot .parse s) → OR.Nothing ≡ ordinaryAnswer at (parsePlain s)
+  unfolding intervalAnswer ordinaryAnswer parsePlain
+  plain-none h = go (endsLang Prot .parse s) h
+    where
+      go : (o : Option (Ends Prot)) → LR.Nothing ≡ intervalAnswer Prot at o → OR.Nothing ≡ ordinaryAnswer at (onEnds (λ i r. afterLocation (certain i) r) s o)
+      go none e = refl
+      go (some t) e = absurd (let z : _≡_ {A = ℕ} 0 1 = cc in omega arith)
+
+  pub opened-none : LR.Nothing ≡ intervalAnswer Prot (at + 1) (endsLang Prot .parse s) → OR.Nothing ≡ ordinaryAnswer at (parseOpened s)
+  unfolding intervalAnswer ordinaryAnswer parseOpened
+  opened-none h = go (endsLang Prot .parse s) h
+    where
+      go : (o : Option (Ends Prot)) → LR.Nothing ≡ intervalAnswer Prot (at + 1) o → OR.Nothing ≡ ordinaryAnswer at (onEnds insideBrackets s o)
+      go none e = refl
+      go (some t) e = absurd (let z : _≡_ {A = ℕ} 0 1 = cc in omega arith)
+
+  -- a certain location
+  module _ {l : Location} {n : ℕ} {f : Faults} (x : IntervalTold Prot at s l n f) where
+    pub interval-le : n ≤ length s
+    interval-le = rw (x .long) (within (endsLang Prot) s (x .tree) (x .parsed))
+
+    behind : take (length s - n) (drop n s) ≡ drop (length (printEnds Prot (x .tree))) s
+    behind = tail-part n s ∙ ap (λ (i : ℕ). drop i s) (x .long)
+
+    after-plain : (o : Option (Mu ProteinEdit)) → afterAnswer l n f (at + n) o ≡ ordinaryAnswer at (mapO (λ e. change (both (certain (x .tree)) e)) o)
+    unfolding ordinaryAnswer
+    after-plain none = refl
+    after-plain (some e) =
+        let k : ℕ = length (printEnds Prot (x .tree)) in
+        let a : locationFor Prot l ≡ locationAt Prot at (certain (x .tree)) = rw (x .means) (location-for Prot at (certain (x .tree))) in
+        let b : n + length (printMu printProteinEdit e) ≡ length (printEnds Prot (x .tree) ++ printMu printProteinEdit e) = rw (x .long) (sym (length-append (printEnds Prot (x .tree)) (printMu printProteinEdit e))) in
+        let c : first f (faults (muNumbers proteinEditNumbers (at + n) e)) ≡ faults (endsNumbers Prot at (x .tree) ++ muNumbers proteinEditNumbers (at + k) e) = rw (x .wrong, x .long) (sym (faults-append (endsNumbers Prot at (x .tree)) (muNumbers proteinEditNumbers (at + k) e))) in
+        rw (a, b, c, x .long)
+
+    pub plain-found : (r : OrdinaryRead) → r ≡ afterAnswer l n f (at + n) (muProteinEditLang .parse (take (length s - n) (drop n s))) → r ≡ ordinaryAnswer at (parsePlain s)
+    unfolding parsePlain
+    plain-found r e = e ∙ after-plain (muProteinEditLang .parse (take (length s - n) (drop n s))) ∙ rw (x .parsed, behind)
+
+-- behind an opening bracket at `at`
+module _ (at : ℕ) (s : List ℕ) {l : Location} {n : ℕ} {f : Faults} (x : IntervalTold Prot (at + 1) s l n f) where
+  after : take (length s - n) (drop n s) ≡ drop (length (printEnds Prot (x .tree))) s
+  after = tail-part n s ∙ ap (λ (i : ℕ). drop i s) (x .long)
+
+  pub closed-le : starts (ascii ")") (take (length s - n) (drop n s)) ≡ true → n + 1 ≤ length s
+  closed-le e = omega (arith, starts-length (ascii ")") (take (length s - n) (drop n s)) e, ap length (tail-part n s), length-drop n s, interval-le (at + 1) s x)
+
+  -- `(`location`)`, then an edit
+  after-shut : (u : Location) → u ≡ uncertainOf l → (o : Option (Mu ProteinEdit)) → afterAnswer u (1 + (n + 1)) f (at + (1 + (n + 1))) o ≡ ordinaryAnswer at (mapO (λ e. change (both (uncertain (x .tree)) e)) o)
+  unfolding ordinaryAnswer
+  after-shut u h none = refl
+  after-shut u h (some e) =
+      let k : ℕ = length (printMu (printEnds Prot) (uncertain (x .tree))) in
+      let j : 1 + (n + 1) ≡ k = omega (arith, x .long, length-append (printEnds Prot (x .tree)) (ascii ")")) in
+      let a : locationFor Prot u ≡ uncertainly Prot (intervalAt Prot (at + 1) (x .tree)) = rw (h, x .means) (uncertain-for Prot (at + 1) (x .tree)) in
+      let b : k + length (printMu printProteinEdit e) ≡ length (printMu (printEnds Prot) (uncertain (x .tree)) ++ printMu printProteinEdit e) = sym (length-append (printMu (printEnds Prot) (uncertain (x .tree))) (printMu printProteinEdit e)) in
+      let c : first f (faults (muNumbers proteinEditNumbers (at + k) e)) ≡ faults (endsNumbers Prot (at + 1) (x .tree) ++ muNumbers proteinEditNumbers (at + k) e) = rw (x .wrong) (sym (faults-append (endsNumbers Prot (at + 1) (x .tree)) (muNumbers proteinEditNumbers (at + k) e))) in
+      rw (j, a, b, c)
+
+  pub shut-found : starts (ascii ")") (take (length s - n) (drop n s)) ≡ true → (u : Location) → u ≡ uncertainOf l → (r : OrdinaryRead)
+      → r ≡ afterAnswer u (1 + (n + 1)) f (at + (1 + (n + 1))) (muProteinEditLang .parse (take (length s - (n + 1)) (drop (n + 1) s))) → r ≡ ordinaryAnswer at (parseOpened s)
+  unfolding parseOpened
+  shut-found q u h r e =
+      let w : take (length s - (n + 1)) (drop (n + 1) s) ≡ drop 1 (drop (length (printEnds Prot (x .tree))) s) = tail-part (n + 1) s ∙ sym (drop-drop 1 n s) ∙ ap (λ (i : ℕ). drop 1 (drop i s)) (x .long) in
+      e ∙ after-shut u h (muProteinEditLang .parse (take (length s - (n + 1)) (drop (n + 1) s))) ∙ rw (x .parsed, rw after at q, w)
+
+  -- `(`location edit`)`
+  inside-closing : (r : List ℕ) (o : Option ProteinEdit) → insideAnswer l n f (at + 1 + n) r o ≡ ordinaryAnswer at (closing (x .tree) r o)
+  unfolding ordinaryAnswer
+  inside-closing r none = refl
+  inside-closing r (some e) = go (starts (ascii ")") (drop (length (printProteinEdit e)) r))
+    where
+      k : ℕ
+      k = length (printEnds Prot (x .tree))
+
+      go : (b : Bool) → cond b (OR.Found (Ordinary (locationFor Prot (uncertainOf l)) (Uncertain (proteinEditAt (at + 1 + n) e))) (1 + n + length (printProteinEdit e) + 1) (first f (faults (proteinEditNumbers (at + 1 + n) e)))) OR.Nothing ≡ ordinaryAnswer at (cond b (some (bracketed (both (x .tree) e))) none)
+      go true =
+          let a : locationFor Prot (uncertainOf l) ≡ uncertainly Prot (intervalAt Prot (at + 1) (x .tree)) = rw (x .means) (uncertain-for Prot (at + 1) (x .tree)) in
+          let b : 1 + n + length (printProteinEdit e) + 1 ≡ length (printProteinBody (bracketed (both (x .tree) e))) = omega (arith, x .long, length-append (printEnds Prot (x .tree) ++ printProteinEdit e) (ascii ")"), length-append (printEnds Prot (x .tree)) (printProteinEdit e)) in
+          let c : first f (faults (proteinEditNumbers (at + 1 + n) e)) ≡ faults (endsNumbers Prot (at + 1) (x .tree) ++ proteinEditNumbers (at + 1 + n) e) = rw (x .wrong) (sym (faults-append (endsNumbers Prot (at + 1) (x .tree)) (proteinEditNumbers (at + 1 + n) e))) in
+          rw (a, b, c, x .long)
+      go false = refl
+
+  pub brackets-found : starts (ascii ")") (take (length s - n) (drop n s)) ≡ false → (r : OrdinaryRead)
+      → r ≡ insideAnswer l n f (at + 1 + n) (take (length s - n) (drop n s)) (proteinEditLang .parse (take (length s - n) (drop n s))) → r ≡ ordinaryAnswer at (parseOpened s)
+  unfolding parseOpened
+  brackets-found q r e = e ∙ inside-closing (take (length s - n) (drop n s)) (proteinEditLang .parse (take (length s - n) (drop n s))) ∙ rw (x .parsed, rw after at q, after)
+
+-- ---- the whole body
+module _ (at : ℕ) (s : List ℕ) where
+  pub ordinary-opened : starts (ascii "(") s ≡ true → (r : OrdinaryRead) → r ≡ ordinaryAnswer at (parseOpened (take (length s - 1) (drop 1 s))) → r ≡ ordinaryAnswer at (parseOrdinary s)
+  unfolding parseOrdinary
+  ordinary-opened e r h = h ∙ rw (e, tail-part 1 s)
+
+  pub ordinary-plain : starts (ascii "(") s ≡ false → (r : OrdinaryRead) → r ≡ ordinaryAnswer at (parsePlain s) → r ≡ ordinaryAnswer at (parseOrdinary s)
+  unfolding parseOrdinary
+  ordinary-plain e r h = h ∙ rw e
+
+-- what the exact texts and the rest answer
+pub record ExactTold (s : List ℕ) (b : ProtLocEdit) : Type 0 where
+  pub tree : ProteinBody
+  pub parsed : firstExact exactBodies s ≡ some tree
+  pub means : b ≡ proteinBodyAt 0 tree
+
+pub exact-told : (s : List ℕ) (b : ProtLocEdit) → ER.Found b ≡ exactAnswer (firstExact exactBodies s) → ExactTold s b
+exact-told s b h = go (firstExact exactBodies s) refl h
+  where
+    go : (o : Option ProteinBody) → firstExact exactBodies s ≡ o → ER.Found b ≡ exactAnswer o → ExactTold s b
+    go none q e = absurd (let z : _≡_ {A = ℕ} 0 1 = cc in omega arith)
+    go (some t) q e = record { tree = t; parsed = q; means = cc }
+
+pub exact-none : (s : List ℕ) → ER.Nothing ≡ exactAnswer (firstExact exactBodies s) → firstExact exactBodies s ≡ none
+exact-none s h = go (firstExact exactBodies s) refl h
+  where
+    go : (o : Option ProteinBody) → firstExact exactBodies s ≡ o → ER.Nothing ≡ exactAnswer o → firstExact exactBodies s ≡ none
+    go none q e = q
+    go (some t) q e = absurd (let z : _≡_ {A = ℕ} 0 1 = cc in omega arith)
+
+-- a body without location has no place and no number
+abbrev Placeless : ProteinBody → Type 0
+Placeless b = (k : ℕ) → (proteinBodyAt k b ≡ proteinBodyAt 0 b) × (proteinBodyNumbers k b ≡ [])
+
+abbrev AllPlaceless : List ProteinBody → Type 0
+AllPlaceless [] = Unit
+AllPlaceless (b ∷ bs) = Placeless b × AllPlaceless bs
+
+placeless : (bs : List ProteinBody) (s : List ℕ) (t : ProteinBody) → AllPlaceless bs → firstExact bs s ≡ some t → Placeless t
+unfolding firstExact
+placeless [] s t w h = absurd (let z : _≡_ {A = ℕ} 0 1 = cc in omega arith)
+placeless (b ∷ bs) s t w h = go (same (printProteinBody b) s) h (placeless bs s t (w .1))
+  where
+    go : (x : Bool) → cond x (some b) (firstExact bs s) ≡ some t → (firstExact bs s ≡ some t → Placeless t) → Placeless t
+    go true k rest = let j : b ≡ t = cc in rw (← j) (w .0)
+    go false k rest = rest k
+
+pub record OrdinaryTold (at : ℕ) (s : List ℕ) (b : ProtLocEdit) (n : ℕ) (f : Faults) : Type 0 where
+  pub tree : ProteinBody
+  pub parsed : parseOrdinary s ≡ some tree
+  pub means : b ≡ proteinBodyAt at tree
+  pub long : n ≡ length (printProteinBody tree)
+  pub wrong : f ≡ faults (proteinBodyNumbers at tree)
+
+module _ (at : ℕ) (s : List ℕ) where
+  pub ordinary-told : (b : ProtLocEdit) (n : ℕ) (f : Faults) → OR.Found b n f ≡ ordinaryAnswer at (parseOrdinary s) → OrdinaryTold at s b n f
+  unfolding ordinaryAnswer
+  ordinary-told b n f h = go (parseOrdinary s) refl h
+    where
+      go : (o : Option ProteinBody) → parseOrdinary s ≡ o → OR.Found b n f ≡ ordinaryAnswer at o → OrdinaryTold at s b n f
+      go none q e = absurd (let z : _≡_ {A = ℕ} 0 1 = cc in omega arith)
+      go (some t) q e = record { tree = t; parsed = q; means = cc; long = cc; wrong = cc }
+
+  pub exact-found : (b : ProtLocEdit) (w : Faults) → ExactTold s b → w ≡ noFaults → BR.Found (Bo.Prot b) w ≡ bodyAnswer Prot at (parseProteinBody s)
+  unfolding bodyAnswer parseProteinBody
+  exact-found b w x h =
+      let p = placeless exactBodies s (x .tree) (λ k. (refl, refl), (λ k. (refl, refl), (λ k. (refl, refl), (λ k. (refl, refl), (λ k. (refl, refl), (λ k. (refl, refl), (λ k. (refl, refl), tt))))))) (x .parsed) at in
+      let a : b ≡ proteinBodyAt at (x .tree) = x .means ∙ sym (p .0) in
+      let c : w ≡ faults (proteinBodyNumbers at (x .tree)) = h ∙ sym (ap faults (p .1) ∙ faults-nil) in
+      rw (x .parsed, a, c)
+
+  module _ (none-exact : firstExact exactBodies s ≡ none) where
+    pub body-none : OR.Nothing ≡ ordinaryAnswer at (parseOrdinary s) → BR.Nothing ≡ bodyAnswer Prot at (parseProteinBody s)
+    unfolding bodyAnswer parseProteinBody ordinaryAnswer
+    body-none h = rw none-exact (go (parseOrdinary s) h)
+      where
+        go : (o : Option ProteinBody) → OR.Nothing ≡ ordinaryAnswer at o → BR.Nothing ≡ bodyAnswer Prot at (ended s o)
+        go none e = refl
+        go (some t) e = absurd (let z : _≡_ {A = ℕ} 0 1 = cc in omega arith)
+
+    module _ {b : ProtLocEdit} {n : ℕ} {f : Faults} (x : OrdinaryTold at s b n f) where
+      pub body-open : (n ≡ length s → ⊥) → BR.Nothing ≡ bodyAnswer Prot at (parseProteinBody s)
+      unfolding bodyAnswer parseProteinBody
+      body-open h = rw (none-exact, x .parsed, ne-eqb (length (printProteinBody (x .tree))) (length s) (λ e. h (x .long ∙ e)))
+
+      pub body-found : n ≡ length s → BR.Found (Bo.Prot b) f ≡ bodyAnswer Prot at (parseProteinBody s)
+      unfolding bodyAnswer parseProteinBody
+      body-found h = rw (none-exact, x .parsed, eq-eqb (length (printProteinBody (x .tree))) (length s) (sym (x .long) ∙ h), x .means, x .wrong)

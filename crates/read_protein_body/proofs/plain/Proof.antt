@@ -1,0 +1,59 @@
+-- `read_protein_body::plain` meets its contract.
+use mathlib.Core.Path.{_≡_, sym, _∙_}
+use native.Mathlib.Omega.{arith}
+use Rattle.record.specs.declared.variant.Kind.the-variants.{Prot}
+use Rattle.read_location.specs.Told.{IntervalTold, interval-told}
+use Rattle.read_location.proofs.Positions.{room}
+use Rattle.read_protein_body.proofs.Laws.{plain-none, interval-le, plain-found}
+use borrow.Author.Needs.{needs}
+use Rattle.read_protein_body.proofs.plain.Statement.{statement}
+use Rattle.read_protein_body.proofs.plain.Tie as tie
+
+-- the interval that was read
+ends : (c : tie.After-l) → IntervalTold Prot (c .before .before .before .before .args .at) (c .before .before .before .before .args .s .now) (c .l .given .0 .0) (c .l .given .0 .1 .0) (c .l .given .0 .1 .1 .0)
+ends c = interval-told _ _ _ _ _ _ (sym (c .l .given .1) ∙ c .before .before .interval-at .ensures)
+
+interval-at-requires : tie.Need-interval-at-requires
+interval-at-requires c κs = search needs
+
+enum-known-l : tie.Need-enum-known-l
+enum-known-l c = search needs
+
+enum-told : tie.Need-enum-told
+enum-told c = search needs
+
+returns : tie.Need-returns
+returns c = plain-none _ _ (sym (c .enum-told .given .1) ∙ c .before .before .interval-at .ensures)
+
+sub-after-location : tie.Need-sub-after-location
+sub-after-location c = interval-le _ _ (ends (c .before))
+
+part-after-location-start : tie.Need-part-after-location-start
+part-after-location-start c = interval-le _ _ (ends (c .before))
+
+part-after-location-end : tie.Need-part-after-location-end
+part-after-location-end c = search needs
+
+add-after-location : tie.Need-add-after-location
+add-after-location c = omega (arith, interval-le _ _ (ends (c .before .before)), c .before .before .before .before .before .before .pre)
+
+after-location-requires : tie.Need-after-location-requires
+after-location-requires c κs = (room _ _ (c .before .before .before .before .before .before .args .s .now) (c .before .before .before .before .before .before .pre) (interval-le _ _ (ends (c .before .before))), omega (arith, interval-le _ _ (ends (c .before .before)), c .before .before .before .before .before .before .pre))
+
+returns-2 : tie.Need-returns-2
+returns-2 c = plain-found _ _ (ends (c .before .before .before)) _ (c .after-location .ensures)
+
+pub plain-spec : {M : Type 1} → statement M
+plain-spec =
+    tie.close
+    (tie.spec
+    interval-at-requires
+    enum-known-l
+    enum-told
+    returns
+    sub-after-location
+    part-after-location-start
+    part-after-location-end
+    add-after-location
+    after-location-requires
+    returns-2)

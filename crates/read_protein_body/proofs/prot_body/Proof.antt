@@ -1,0 +1,66 @@
+-- `read_protein_body::prot_body` meets its contract.
+use mathlib.Core.Path.{_≡_, sym, _∙_}
+use native.Mathlib.Omega.{arith}
+use Rattle.read_protein_body.proofs.Laws.{ExactTold, exact-told, exact-none, OrdinaryTold, ordinary-told, exact-found, body-none, body-open, body-found}
+use mathlib.Core.Option.{none}
+use Rattle.bodies.specs.ProteinBodies.{exactBodies, firstExact}
+use borrow.Author.Needs.{needs}
+use Rattle.read_protein_body.proofs.prot_body.Statement.{statement}
+use Rattle.read_protein_body.proofs.prot_body.Tie as tie
+
+-- no text without location
+no-exact : (c : tie.After-enum-told) → firstExact exactBodies (c .before .before .before .before .args .s .now) ≡ none
+no-exact c = exact-none _ (sym (c .enum-told .given .1) ∙ c .before .before .exact .ensures)
+
+-- location and edit
+ordinary : (c : tie.After-b2) → OrdinaryTold (c .before .before .before .before .before .before .before .args .at) (c .before .before .before .before .before .before .before .args .s .now) (c .b2 .given .0 .0) (c .b2 .given .0 .1 .0) (c .b2 .given .0 .1 .1 .0)
+ordinary c = ordinary-told _ _ _ _ _ (sym (c .b2 .given .1) ∙ c .before .before .ordinary .ensures)
+
+exact-requires : tie.Need-exact-requires
+exact-requires c κs = search needs
+
+enum-known-b : tie.Need-enum-known-b
+enum-known-b c = search needs
+
+no-faults-requires : tie.Need-no-faults-requires
+no-faults-requires c κs = search needs
+
+returns : tie.Need-returns
+returns c = exact-found _ _ _ _ (exact-told _ _ (sym (c .before .before .b .given .1) ∙ c .before .before .before .before .exact .ensures)) (c .no-faults .ensures)
+
+enum-told : tie.Need-enum-told
+enum-told c = search needs
+
+ordinary-requires : tie.Need-ordinary-requires
+ordinary-requires c κs = search needs
+
+enum-known-b-2 : tie.Need-enum-known-b-2
+enum-known-b-2 c = search needs
+
+enum-told-2 : tie.Need-enum-told-2
+enum-told-2 c = search needs
+
+returns-2 : tie.Need-returns-2
+returns-2 c = body-none _ _ (no-exact (c .before .before .before)) (sym (c .enum-told2 .given .1) ∙ c .before .before .ordinary .ensures)
+
+returns-3 : tie.Need-returns-3
+returns-3 c = body-open _ _ (no-exact (c .before .before .before .before .before)) (ordinary (c .before .before)) (c .if1 .taken)
+
+returns-4 : tie.Need-returns-4
+returns-4 c = body-found _ _ (no-exact (c .before .before .before .before .before)) (ordinary (c .before .before)) (c .if1 .left)
+
+pub prot-body-spec : {M : Type 1} → statement M
+prot-body-spec =
+    tie.close
+    (tie.spec
+    exact-requires
+    enum-known-b
+    no-faults-requires
+    returns
+    enum-told
+    ordinary-requires
+    enum-known-b-2
+    enum-told-2
+    returns-2
+    returns-3
+    returns-4)

@@ -1,0 +1,161 @@
+// Reading a body of p: the texts without location, tried as a whole, else location and edit, up to the end of the text.
+use read_location::Location;
+use read_location::LocationRead;
+use read_na_body::BodyRead;
+use read_protein_edit::MuProteinEditRead;
+use read_protein_edit::ProteinEditRead;
+use record::edits::MuProteinEdit;
+use record::variant::Body;
+use record::variant::Kind;
+use record::variant::ProtLocEdit;
+use scan::Faults;
+ghost use mathlib.Core.Path.{_≡_};
+ghost use Prim.Native.Nat.{_+_, _≤_};
+ghost use lib.ListN.{length};
+ghost use Rattle.texts.specs.Words.{same};
+ghost use Rattle.protein_edits.specs.Instance.{proteinEditLang, muProteinEditLang};
+ghost use Rattle.bodies.specs.ProteinBodies.{exactBodies, firstExact, parsePlain, parseOpened, parseOrdinary, parseProteinBody};
+ghost use Rattle.record.specs.declared.variant.Kind.the-variants.{Prot};
+ghost use Rattle.read_na_body.specs.Answer.{bodyAnswer};
+ghost use Rattle.read_protein_body.specs.Answer.{exactAnswer, ordinaryAnswer, afterAnswer, insideAnswer};
+
+pub enum ExactRead {
+    Nothing,
+    Found(ProtLocEdit),
+}
+
+pub enum OrdinaryRead {
+    Nothing,
+    Found(ProtLocEdit, usize, Faults),
+}
+
+fn is(s: &[u8], word: &[u8]) -> bool
+    ensures { λ r. ⌜ r ≡ same (now (word .entry)) (now (s .entry)) ⌝ }
+{
+    if word.len() != s.len() {
+        return false;
+    }
+    scan::begins(s, word)
+}
+
+// The texts without location.
+fn exact(s: &[u8]) -> ExactRead
+    ensures { λ r. ⌜ r ≡ exactAnswer (firstExact exactBodies (now (s .entry))) ⌝ }
+{
+    if is(s, b"Met1?") {
+        return ExactRead::Found(ProtLocEdit::InitiationUncertain);
+    }
+    if is(s, b"(Met1?)") {
+        return ExactRead::Found(ProtLocEdit::InitiationUncertain);
+    }
+    if is(s, b"0?") {
+        return ExactRead::Found(ProtLocEdit::NoProteinUncertain);
+    }
+    if is(s, b"0") {
+        return ExactRead::Found(ProtLocEdit::NoProtein);
+    }
+    if is(s, b"(=)") {
+        return ExactRead::Found(ProtLocEdit::NoChangeUncertain);
+    }
+    if is(s, b"=") {
+        return ExactRead::Found(ProtLocEdit::NoChange);
+    }
+    if is(s, b"?") {
+        return ExactRead::Found(ProtLocEdit::Unknown);
+    }
+    ExactRead::Nothing
+}
+
+// The edit behind a location of n bytes; s starts at `at`.
+fn after_location(l: Location, n: usize, faults: Faults, s: &[u8], at: usize) -> OrdinaryRead
+    requires { ⌜ (at + length (now s) ≤ 4096) × (n ≤ 4096) ⌝ }
+    ensures { λ r. ⌜ r ≡ afterAnswer l n faults at (muProteinEditLang .parse (now (s .entry))) ⌝ }
+{
+    let MuProteinEditRead::Found(edit, m, later) = read_protein_edit::mu_protein_edit_at(s, at)
+    else {
+        return OrdinaryRead::Nothing;
+    };
+    let loc = read_location::prot_interval(l);
+    OrdinaryRead::Found(
+        ProtLocEdit::Ordinary(loc, edit),
+        n + m,
+        scan::leftmost(faults, later),
+    )
+}
+
+// Inside one pair of brackets: the edit behind an interval of n bytes, and the closing bracket.
+fn inside_brackets(l: Location, n: usize, faults: Faults, s: &[u8], at: usize) -> OrdinaryRead
+    requires { ⌜ (at + length (now s) ≤ 4096) × (n ≤ 4096) ⌝ }
+    ensures { λ r. ⌜ r ≡ insideAnswer l n faults at (now (s .entry)) (proteinEditLang .parse (now (s .entry))) ⌝ }
+{
+    let ProteinEditRead::Found(edit, m, later) = read_protein_edit::protein_edit_at(s, at) else {
+        return OrdinaryRead::Nothing;
+    };
+    if !scan::begins(&s[m..], b")") {
+        return OrdinaryRead::Nothing;
+    }
+    let loc = read_location::prot_interval(read_location::uncertain(l));
+    OrdinaryRead::Found(
+        ProtLocEdit::Ordinary(loc, MuProteinEdit::Uncertain(edit)),
+        1 + n + m + 1,
+        scan::leftmost(faults, later),
+    )
+}
+
+// Behind the opening bracket, which stands at `at`.
+fn opened(s: &[u8], at: usize) -> OrdinaryRead
+    requires { ⌜ at + 1 + length (now s) ≤ 4096 ⌝ }
+    ensures { λ r. ⌜ r ≡ ordinaryAnswer at (parseOpened (now (s .entry))) ⌝ }
+{
+    let LocationRead::Found(l, n, faults) = read_location::interval_at(Kind::Prot, s, at + 1) else {
+        return OrdinaryRead::Nothing;
+    };
+    if scan::begins(&s[n..], b")") {
+        let k = n + 1;
+        let behind = 1 + k;
+        return after_location(
+            read_location::uncertain(l),
+            behind,
+            faults,
+            &s[k..],
+            at + behind,
+        );
+    }
+    inside_brackets(l, n, faults, &s[n..], at + 1 + n)
+}
+
+fn plain(s: &[u8], at: usize) -> OrdinaryRead
+    requires { ⌜ at + length (now s) ≤ 4096 ⌝ }
+    ensures { λ r. ⌜ r ≡ ordinaryAnswer at (parsePlain (now (s .entry))) ⌝ }
+{
+    let LocationRead::Found(l, n, faults) = read_location::interval_at(Kind::Prot, s, at) else {
+        return OrdinaryRead::Nothing;
+    };
+    after_location(l, n, faults, &s[n..], at + n)
+}
+
+fn ordinary(s: &[u8], at: usize) -> OrdinaryRead
+    requires { ⌜ at + length (now s) ≤ 4096 ⌝ }
+    ensures { λ r. ⌜ r ≡ ordinaryAnswer at (parseOrdinary (now (s .entry))) ⌝ }
+{
+    if scan::begins(s, b"(") {
+        return opened(&s[1..], at);
+    }
+    plain(s, at)
+}
+
+pub fn prot_body(s: &[u8], at: usize) -> BodyRead
+    requires { ⌜ at + length (now s) ≤ 4096 ⌝ }
+    ensures { λ r. ⌜ r ≡ bodyAnswer Prot at (parseProteinBody (now (s .entry))) ⌝ }
+{
+    if let ExactRead::Found(b) = exact(s) {
+        return BodyRead::Found(Body::Prot(b), scan::no_faults());
+    }
+    let OrdinaryRead::Found(b, n, faults) = ordinary(s, at) else {
+        return BodyRead::Nothing;
+    };
+    if n != s.len() {
+        return BodyRead::Nothing;
+    }
+    BodyRead::Found(Body::Prot(b), faults)
+}

@@ -1,0 +1,278 @@
+// Reading a protein edit.
+use number::Sign;
+use record::edits::MuProteinEdit;
+use record::edits::ProteinEdit;
+use record::edits::UncertainLengthChange;
+use record::spans::Part;
+use scan::Faults;
+ghost use mathlib.Core.Path.{_≡_};
+ghost use Prim.Native.Nat.{_+_, _≤_};
+ghost use lib.ListN.{length};
+ghost use Rattle.protein_edits.specs.Parse.{terminalAt, lengthAt, stopAt, earlierAt, laterOf, extEndAt, residuesBehind, wordedAt};
+ghost use Rattle.protein_edits.specs.Instance.{proteinEditLang, muProteinEditLang};
+ghost use Rattle.read_protein_edit.specs.Answer.{proteinEditAnswer, muProteinEditAnswer, terminalLen, lengthRead, stopRead, residuePart, fsRead, extRead, earlierRead};
+
+// What stands at the front of a text: an edit, how long it is, and what is wrong with its number.
+pub enum ProteinEditRead {
+    Nothing,
+    Found(ProteinEdit, usize, Faults),
+}
+
+pub enum MuProteinEditRead {
+    Nothing,
+    Found(MuProteinEdit, usize, Faults),
+}
+
+pub struct LengthRead {
+    pub change: UncertainLengthChange,
+    pub len: usize,
+    pub faults: Faults,
+}
+
+// A terminal, which may be missing, with what is said behind it.
+pub struct StopRead {
+    pub terminal: Part,
+    pub change: UncertainLengthChange,
+    pub len: usize,
+    pub faults: Faults,
+}
+
+// The bytes of the terminal at the front: `Ter`, `X` or `*`.
+fn terminal_at(s: &[u8]) -> usize
+    ensures { λ r. ⌜ r ≡ terminalLen (terminalAt (now (s .entry))) ⌝ }
+{
+    if scan::begins(s, b"Ter") {
+        return 3;
+    }
+    if scan::begins(s, b"X") {
+        return 1;
+    }
+    if scan::begins(s, b"*") {
+        return 1;
+    }
+    0
+}
+
+// Behind a terminal: digits, `?` or nothing.
+fn length_at(s: &[u8], at: usize) -> LengthRead
+    ensures { λ r. ⌜ r ≡ lengthRead at (lengthAt (now (s .entry))) ⌝ }
+{
+    let n = number::number_at(s, Sign::Plain);
+    if n.len != 0 {
+        return LengthRead {
+            change: UncertainLengthChange::Known(n.value),
+            len: n.len,
+            faults: scan::faults_of(at, n),
+        };
+    }
+    if scan::begins(s, b"?") {
+        return LengthRead {
+            change: UncertainLengthChange::Unknown,
+            len: 1,
+            faults: scan::no_faults(),
+        };
+    }
+    LengthRead {
+        change: UncertainLengthChange::None,
+        len: 0,
+        faults: scan::no_faults(),
+    }
+}
+
+fn stop_at(s: &[u8], at: usize) -> StopRead
+    requires { ⌜ at + length (now s) ≤ 4096 ⌝ }
+    ensures { λ r. ⌜ r ≡ stopRead at (stopAt (now (s .entry))) ⌝ }
+{
+    let t = terminal_at(s);
+    if t == 0 {
+        return StopRead {
+            terminal: Part::Absent,
+            change: UncertainLengthChange::None,
+            len: 0,
+            faults: scan::no_faults(),
+        };
+    }
+    let n = length_at(&s[t..], at + t);
+    let change = n.change;
+    let faults = n.faults;
+    StopRead {
+        terminal: Part::Present(scan::span(at, t)),
+        change,
+        len: t + n.len,
+        faults,
+    }
+}
+
+// A residue of n bytes that starts at `at`; of none, it is missing.
+fn residue_part(at: usize, n: usize) -> Part
+    requires { ⌜ at + n ≤ 4096 ⌝ }
+    ensures { λ r. ⌜ r ≡ residuePart at n ⌝ }
+{
+    if n == 0 {
+        Part::Absent
+    } else {
+        Part::Present(scan::span(at, n))
+    }
+}
+
+// Behind the word `fs` of an edit that starts at `at`, with a residue of n bytes before the word.
+fn fs(s: &[u8], at: usize, n: usize) -> ProteinEditRead
+    requires { ⌜ at + n + 2 + length (now s) ≤ 4096 ⌝ }
+    ensures { λ r. ⌜ r ≡ fsRead at n (stopAt (now (s .entry))) ⌝ }
+{
+    let e = stop_at(s, at + n + 2);
+    let terminal = e.terminal;
+    let change = e.change;
+    let faults = e.faults;
+    ProteinEditRead::Found(
+        ProteinEdit::Fs(residue_part(at, n), terminal, change),
+        n + 2 + e.len,
+        faults,
+    )
+}
+
+// Behind the word `ext`: an optional residue with `-` and digits.
+fn ext_neg_shift(s: &[u8], at: usize, n: usize) -> ProteinEditRead
+    requires { ⌜ at + n + 3 + length (now s) ≤ 4096 ⌝ }
+    ensures { λ r. ⌜ r ≡ earlierRead at n (earlierAt (now (s .entry))) ⌝ }
+{
+    let m = residue::residue_at(s);
+    let rest = &s[m..];
+    if !scan::begins(rest, b"-") {
+        return ProteinEditRead::Nothing;
+    }
+    let d = number::number_at(&rest[1..], Sign::Negated);
+    if d.len == 0 {
+        return ProteinEditRead::Nothing;
+    }
+    let k = at + n + 3;
+    ProteinEditRead::Found(
+        ProteinEdit::Ext(
+            residue_part(at, n),
+            residue_part(k, m),
+            UncertainLengthChange::Known(d.value),
+        ),
+        n + 3 + m + 1 + d.len,
+        scan::faults_of(k + m + 1, d),
+    )
+}
+
+// Behind the word `ext`: a terminal, or nothing (the crate's `ext_minimal`).
+fn ext_pos_shift(s: &[u8], at: usize, n: usize) -> ProteinEditRead
+    requires { ⌜ at + n + 3 + length (now s) ≤ 4096 ⌝ }
+    ensures { λ r. ⌜ r ≡ extRead at n (laterOf (stopAt (now (s .entry)))) ⌝ }
+{
+    let e = stop_at(s, at + n + 3);
+    let terminal = e.terminal;
+    let change = e.change;
+    let faults = e.faults;
+    ProteinEditRead::Found(
+        ProteinEdit::Ext(residue_part(at, n), terminal, change),
+        n + 3 + e.len,
+        faults,
+    )
+}
+
+fn ext(s: &[u8], at: usize, n: usize) -> ProteinEditRead
+    requires { ⌜ at + n + 3 + length (now s) ≤ 4096 ⌝ }
+    ensures { λ r. ⌜ r ≡ extRead at n (extEndAt (now (s .entry))) ⌝ }
+{
+    let found = ext_neg_shift(s, at, n);
+    let ProteinEditRead::Nothing = found else {
+        return found;
+    };
+    ext_pos_shift(s, at, n)
+}
+
+// The bytes of the residues behind a word; none where the word is not at the front.
+fn residues_behind(s: &[u8], word: &[u8]) -> usize
+    ensures { λ r. ⌜ r ≡ residuesBehind (now (word .entry)) (now (s .entry)) ⌝ }
+{
+    if !scan::begins(s, word) {
+        return 0;
+    }
+    let k = word.len();
+    residue::residues_at(&s[k..])
+}
+
+// `delins`, `del`, `ins` and `dup`.
+fn worded(s: &[u8], at: usize) -> ProteinEditRead
+    requires { ⌜ at + length (now s) ≤ 4096 ⌝ }
+    ensures { λ r. ⌜ r ≡ proteinEditAnswer at (wordedAt (now (s .entry))) ⌝ }
+{
+    let m = residues_behind(s, b"delins");
+    if m != 0 {
+        return ProteinEditRead::Found(
+            ProteinEdit::DelIns(scan::span(at + 6, m)),
+            6 + m,
+            scan::no_faults(),
+        );
+    }
+    if scan::begins(s, b"del") {
+        return ProteinEditRead::Found(ProteinEdit::Del, 3, scan::no_faults());
+    }
+    let k = residues_behind(s, b"ins");
+    if k != 0 {
+        return ProteinEditRead::Found(
+            ProteinEdit::Ins(scan::span(at + 3, k)),
+            3 + k,
+            scan::no_faults(),
+        );
+    }
+    if scan::begins(s, b"dup") {
+        return ProteinEditRead::Found(ProteinEdit::Dup, 3, scan::no_faults());
+    }
+    ProteinEditRead::Nothing
+}
+
+// The edit at the front of s, which stands at `at` in its text. The alternatives are tried in the crate's order.
+pub fn protein_edit_at(s: &[u8], at: usize) -> ProteinEditRead
+    requires { ⌜ at + length (now s) ≤ 4096 ⌝ }
+    ensures { λ r. ⌜ r ≡ proteinEditAnswer at (proteinEditLang .parse (now (s .entry))) ⌝ }
+{
+    let n = residue::residue_at(s);
+    let rest = &s[n..];
+    if scan::begins(rest, b"fs") {
+        return fs(&rest[2..], at, n);
+    }
+    if scan::begins(rest, b"ext") {
+        return ext(&rest[3..], at, n);
+    }
+    if scan::begins(s, b"=") {
+        return ProteinEditRead::Found(ProteinEdit::Ident, 1, scan::no_faults());
+    }
+    if scan::begins(s, b"?") {
+        return ProteinEditRead::Found(ProteinEdit::Subst(scan::span(at, 1)), 1, scan::no_faults());
+    }
+    if n != 0 {
+        return ProteinEditRead::Found(ProteinEdit::Subst(scan::span(at, n)), n, scan::no_faults());
+    }
+    worded(s, at)
+}
+
+// The edit at the front of s, certain, or uncertain when in round brackets.
+pub fn mu_protein_edit_at(s: &[u8], at: usize) -> MuProteinEditRead
+    requires { ⌜ at + length (now s) ≤ 4096 ⌝ }
+    ensures { λ r. ⌜ r ≡ muProteinEditAnswer at (muProteinEditLang .parse (now (s .entry))) ⌝ }
+{
+    if scan::begins(s, b"(") {
+        match protein_edit_at(&s[1..], at + 1) {
+            ProteinEditRead::Nothing => MuProteinEditRead::Nothing,
+            ProteinEditRead::Found(e, len, faults) => {
+                let k = 1 + len;
+                if scan::begins(&s[k..], b")") {
+                    MuProteinEditRead::Found(MuProteinEdit::Uncertain(e), k + 1, faults)
+                } else {
+                    MuProteinEditRead::Nothing
+                }
+            }
+        }
+    } else {
+        match protein_edit_at(s, at) {
+            ProteinEditRead::Nothing => MuProteinEditRead::Nothing,
+            ProteinEditRead::Found(e, len, faults) => {
+                MuProteinEditRead::Found(MuProteinEdit::Certain(e), len, faults)
+            }
+        }
+    }
+}

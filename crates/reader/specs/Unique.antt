@@ -1,0 +1,28 @@
+-- Reading a text has one answer, and where it is accepted the record's content is what the text means.
+use Prim.Native.Nat.{ℕ}
+use mathlib.Core.Path.{_≡_, refl, sym, ap, _∙_}
+use mathlib.Core.List.{List}
+use Rattle.record.specs.declared.answers.ReadAnswer.{ReadAnswer}
+use Rattle.record.specs.declared.variant.HgvsVariant.{HgvsVariant}
+use Rattle.grammar.specs.Texts.{Text, print, Wf, allLetters}
+use Rattle.grammar.specs.Records.{recordAt}
+use Rattle.grammar.specs.Contents.{content}
+use Rattle.grammar.specs.ContentLaw.{content-is}
+use Rattle.bodies.specs.WholeText.{unambiguous}
+use Rattle.promise.specs.Outcome.{Outcome.given, readOutcome}
+use Rattle.promise.specs.Reading.{Reads, Reads.accepted}
+use Rattle.promise.specs.Writing.{ReadsAsValue}
+use Rattle.promise.specs.Unique.{one-read-answer}
+use Rattle.reader.specs.Answer.{alphabets}
+
+-- the grammar is unambiguous
+pub one-tree : (x y : Text) → Wf allLetters x → Wf allLetters y → print x ≡ print y → x ≡ y
+one-tree = unambiguous allLetters alphabets
+
+-- no second answer fits
+pub one-answer : (t : List ℕ) (a b : ReadAnswer) → Reads allLetters t (readOutcome a) → Reads allLetters t (readOutcome b) → a ≡ b
+one-answer = one-read-answer allLetters one-tree
+
+-- an accepted text reads as the content of its record
+pub reads-content : (t : List ℕ) (v : HgvsVariant) → Reads allLetters t (given v) → ReadsAsValue allLetters t (content t v)
+reads-content t v (accepted short x tree fits) = record { tree = x; wf = tree .wf; fits = fits; text = tree .text; means = sym (rw (tree .text) at (content-is x)) }
