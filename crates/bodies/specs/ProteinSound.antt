@@ -61,7 +61,7 @@ WfOrdinary (bracketed (both i e)) = WfEnds Prot i × WfProteinEdit e
 after-complete : (l : Mu (Ends Prot)) (e : Mu ProteinEdit) → WfMu WfProteinEdit e → afterLocation l (printMu printProteinEdit e) ≡ some (change (both l e))
 after-complete l e w = rw (rw append-nil at (muProteinEditLang .complete e [] w stop-nil))
 
-ordinary-complete : (b : ProteinBody) → WfOrdinary b → parseOrdinary (printProteinBody b) ≡ some b
+pub ordinary-complete : (b : ProteinBody) → WfOrdinary b → parseOrdinary (printProteinBody b) ≡ some b
 unfolding parseOrdinary parsePlain parseOpened starts every
 ordinary-complete met1 w = absurd w
 ordinary-complete bracketedMet1 w = absurd w

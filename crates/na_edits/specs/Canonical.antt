@@ -74,7 +74,7 @@ counted-is : (f : List ℕ → NaEdit) (k : ℕ) (ds : List ℕ) → misfit (num
 counted-is f k ds e = let h = one-fits k Plain ds e in rw (saturated-fit Plain (val ds) h, le-leb (val ds) (most Plain) h)
 
 -- ---- one letter
-one-is : (a : List ℕ) → length a ≡ 1 → a ≡ getD a 0 0 ∷ []
+pub one-is : (a : List ℕ) → length a ≡ 1 → a ≡ getD a 0 0 ∷ []
 one-is [] e = absurd (omega arith)
 one-is (x ∷ []) e = refl
 one-is (x ∷ y ∷ a) e = absurd (omega arith)

@@ -17,7 +17,7 @@ use Rattle.record.specs.declared.edits.MuNaEdit.{MuNaEdit}
 use Rattle.record.specs.declared.variant.Body.the-variants as Bo
 use Rattle.grammar.specs.Shapes.{Mu, Both, Both.both, printMu}
 use Rattle.grammar.specs.NucleotideEdits.{NaEdit, printNaEdit}
-use Rattle.grammar.specs.Bodies.{Location, printLocation, NaBody, printNaBody}
+use Rattle.grammar.specs.Bodies.{printLocation, printNaBody}
 use Rattle.grammar.specs.Records.{muNaEditAt, MuIntervalR}
 use Rattle.grammar.specs.Numbers.{muNumbers, endsNumbers, naEditNumbers, naBodyNumbers}
 use Rattle.lang.specs.Lang.{within}
@@ -30,9 +30,8 @@ use Rattle.bodies.specs.NaBodies.{naBodyLang}
 use Rattle.scan.specs.declared.Faults.{Faults}
 use Rattle.scan.specs.Faults.{faults, first, faults-append}
 use Rattle.read_location.specs.declared.Location as Raw
-use Rattle.read_location.specs.declared.LocationRead.the-variants as LR
-use Rattle.read_location.specs.Answer.{locationOf, locationAnswer}
 use Rattle.read_location.specs.Records.{locationFor}
+use Rattle.read_location.specs.Told.{LocationTold, location-within}
 use Rattle.read_na_edit.specs.declared.MuNaEditRead.the-variants as ER
 use Rattle.read_na_edit.specs.Answer.{muNaEditAnswer}
 use Rattle.read_na_body.specs.declared.BodyRead.{BodyRead}
@@ -57,35 +56,12 @@ module _ (l : Raw.Location) (e : MuNaEdit) where
   made-rna kind m p q = rw (p, q)
 
 -- ---- a location, and behind it an edit
-pub record LocationTold (k : Kind) (at : ℕ) (s : List ℕ) (l : Raw.Location) (n : ℕ) (f : Faults) : Type 0 where
-  pub tree : Location k
-  pub parsed : locationLang k .parse s ≡ some tree
-  pub means : l ≡ locationOf k at tree
-  pub long : n ≡ length (printLocation k tree)
-  pub wrong : f ≡ faults (muNumbers (endsNumbers k) at tree)
-
 pub record EditTold (at : ℕ) (s : List ℕ) (e : MuNaEdit) (n : ℕ) (f : Faults) : Type 0 where
   pub tree : Mu NaEdit
   pub parsed : muNaEditLang nucleotide nucleotides .parse s ≡ some tree
   pub means : e ≡ muNaEditAt at tree
   pub long : n ≡ length (printMu printNaEdit tree)
   pub wrong : f ≡ faults (muNumbers naEditNumbers at tree)
-
-pub location-told : (k : Kind) (at : ℕ) (s : List ℕ) (l : Raw.Location) (n : ℕ) (f : Faults) → LR.Found l n f ≡ locationAnswer k at (locationLang k .parse s) → LocationTold k at s l n f
-unfolding locationAnswer
-location-told k at s l n f h = go (locationLang k .parse s) refl h
-  where
-    go : (o : Option (Location k)) → locationLang k .parse s ≡ o → LR.Found l n f ≡ locationAnswer k at o → LocationTold k at s l n f
-    go none q e = absurd (let z : _≡_ {A = ℕ} 0 1 = cc in omega arith)
-    go (some t) q e = record { tree = t; parsed = q; means = cc; long = cc; wrong = cc }
-
-pub location-none : (k : Kind) (at : ℕ) (s : List ℕ) → LR.Nothing ≡ locationAnswer k at (locationLang k .parse s) → locationLang k .parse s ≡ none
-unfolding locationAnswer
-location-none k at s h = go (locationLang k .parse s) refl h
-  where
-    go : (o : Option (Location k)) → locationLang k .parse s ≡ o → LR.Nothing ≡ locationAnswer k at o → locationLang k .parse s ≡ none
-    go none q e = q
-    go (some t) q e = absurd (let z : _≡_ {A = ℕ} 0 1 = cc in omega arith)
 
 pub edit-told : (at : ℕ) (s : List ℕ) (e : MuNaEdit) (n : ℕ) (f : Faults) → ER.Found e n f ≡ muNaEditAnswer at (muNaEditLang nucleotide nucleotides .parse s) → EditTold at s e n f
 unfolding muNaEditAnswer
@@ -112,9 +88,6 @@ module _ (k : Kind) (at : ℕ) (s : List ℕ) where
   no-location e = rw e
 
   module _ {l : Raw.Location} {n : ℕ} {f : Faults} (x : LocationTold k at s l n f) where
-    pub location-le : n ≤ length s
-    location-le = rw (x .long) (within (locationLang k) s (x .tree) (x .parsed))
-
     -- what is behind the location
     rest : take (length s - n) (drop n s) ≡ drop (length (printLocation k (x .tree))) s
     rest = tail-part n s ∙ ap (λ (i : ℕ). drop i s) (x .long)
@@ -127,7 +100,7 @@ module _ (k : Kind) (at : ℕ) (s : List ℕ) where
       pub edit-le : n + m ≤ length s
       edit-le =
           let h = within (muNaEditLang nucleotide nucleotides) (take (length s - n) (drop n s)) (y .tree) (y .parsed) in
-          omega (arith, y .long, ap length (tail-part n s), length-drop n s, location-le)
+          omega (arith, y .long, ap length (tail-part n s), length-drop n s, location-within x)
 
       both-long : length (printNaBody k (both (x .tree) (y .tree))) ≡ n + m
       both-long = length-append (printLocation k (x .tree)) (printMu printNaEdit (y .tree)) ∙ rw (x .long, y .long)

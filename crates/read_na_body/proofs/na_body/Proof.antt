@@ -4,7 +4,8 @@ use mathlib.Core.Path.{_≡_, sym, _∙_}
 use native.Mathlib.Omega.{arith}
 use lib.ListN.{length, take, drop}
 use Rattle.read_location.proofs.Positions.{room}
-use Rattle.read_na_body.proofs.Laws.{LocationTold, EditTold, location-told, location-none, edit-told, edit-none, no-location, location-le, no-edit, edit-le, not-ended, body-found}
+use Rattle.read_location.specs.Told.{LocationTold, location-told, location-unread, location-within}
+use Rattle.read_na_body.proofs.Laws.{EditTold, edit-told, edit-none, no-location, no-edit, edit-le, not-ended, body-found}
 use borrow.Author.Needs.{needs}
 use Rattle.read_na_body.proofs.na_body.Statement.{statement}
 use Rattle.read_na_body.proofs.na_body.Tie as tie
@@ -26,22 +27,22 @@ enum-told : tie.Need-enum-told
 enum-told c = search needs
 
 returns : tie.Need-returns
-returns c = no-location _ _ _ (location-none _ _ _ (sym (c .enum-told .given .1) ∙ c .before .before .location-at .ensures))
+returns c = no-location _ _ _ (location-unread _ _ _ (sym (c .enum-told .given .1) ∙ c .before .before .location-at .ensures))
 
 sub-mu-na-edit-at : tie.Need-sub-mu-na-edit-at
-sub-mu-na-edit-at c = location-le _ _ _ (loc (c .before))
+sub-mu-na-edit-at c = location-within (loc (c .before))
 
 part-mu-na-edit-at-start : tie.Need-part-mu-na-edit-at-start
-part-mu-na-edit-at-start c = location-le _ _ _ (loc (c .before))
+part-mu-na-edit-at-start c = location-within (loc (c .before))
 
 part-mu-na-edit-at-end : tie.Need-part-mu-na-edit-at-end
 part-mu-na-edit-at-end c = search needs
 
 add-mu-na-edit-at : tie.Need-add-mu-na-edit-at
-add-mu-na-edit-at c = omega (arith, location-le _ _ _ (loc (c .before .before)), c .before .before .before .before .before .before .pre)
+add-mu-na-edit-at c = omega (arith, location-within (loc (c .before .before)), c .before .before .before .before .before .before .pre)
 
 mu-na-edit-at-requires : tie.Need-mu-na-edit-at-requires
-mu-na-edit-at-requires c κs = room _ _ (c .before .before .before .before .before .before .args .s .now) (c .before .before .before .before .before .before .pre) (location-le _ _ _ (loc (c .before .before)))
+mu-na-edit-at-requires c κs = room _ _ (c .before .before .before .before .before .before .args .s .now) (c .before .before .before .before .before .before .pre) (location-within (loc (c .before .before)))
 
 enum-known-edit : tie.Need-enum-known-edit
 enum-known-edit c = search needs

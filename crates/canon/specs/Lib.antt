@@ -1,0 +1,6 @@
+pub mod WholeLang
+pub mod NaBodyCanon
+pub mod ProteinBodyCanon
+pub mod TextCanon
+pub mod NoRefCanon
+pub mod Pairs

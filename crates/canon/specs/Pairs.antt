@@ -1,0 +1,205 @@
+-- Document 01, "Pairs at the edge": read, and written again.
+use Prim.Native.Nat.{ℕ, _≤_}
+use Prim.Native.String.{String}
+use mathlib.Core.Path.{_≡_, refl, sym, ap, _∙_}
+use mathlib.Core.List.{List, [], _∷_, _++_, map}
+use mathlib.Core.Option.{Option, none, some}
+use mathlib.Core.Bool.{Bool, true, false, cond}
+use lib.Dec.{leb}
+use lib.IntN.{pos}
+use lib.ListN.{length}
+use borrow.Author.Tests.{leb-true, leb-false}
+use Rattle.texts.specs.Ascii.{ascii}
+use Rattle.texts.specs.Tests.{none-some}
+use Rattle.texts.specs.Runs.{every, run, front, behind}
+use Rattle.texts.specs.Words.{starts, same}
+use Rattle.alphabet.specs.Letters.{nucleotide, residue, letter, digit, alphanumeric}
+use Rattle.residue.specs.Rows.{rows}
+use Rattle.residue.specs.Reading.{residueLen, threesLen, residuesLen}
+use Rattle.residue.specs.Residues.{oneOf, isThree, isOne, isResidue, threes, isResidues}
+use Rattle.number.specs.Digits.{valFrom, decUpTo}
+use Rattle.number.specs.Reading.{saturated}
+use Rattle.record.specs.declared.variant.Kind.{Kind}
+use Rattle.record.specs.declared.variant.Kind.the-variants.{Cds, Genome, Mt, Tx, Prot, Rna}
+use Rattle.grammar.specs.Texts.{Text, print, allLetters}
+use Rattle.record.specs.declared.positions.GenomePos.the-variants.{At}
+use Rattle.record.specs.declared.edits.UncertainLengthChange.the-variants.{Known}
+use Rattle.grammar.specs.Shapes.{Mu.certain, Both.both}
+use Rattle.grammar.specs.Values.{BodyV, ProtPosV.protPosV, NaEditV.refAlt, ProteinEditV.extV, HeaderV.headerV, ProteinBodyV, ProteinBodyV.ordinary, ProteinBodyV.noChangeV, ProteinBodyV.noChangeUncertainV, ProteinBodyV.noProteinV, ProteinBodyV.noProteinUncertainV, ProteinBodyV.unknownV, ProteinBodyV.initiationUncertain, Value, Value.value}
+use Rattle.grammar.specs.Meaning.{meaning}
+use Rattle.grammar.specs.Numbers.{misfit, numbersAt}
+use Rattle.lang.specs.Whole.{whole}
+use Rattle.lang.specs.MuLang.{parseMu}
+use Rattle.lang.specs.BothLang.{parseBoth}
+use Rattle.lang.specs.IntervalLang.{parseInterval}
+use Rattle.location.specs.Parse.{onDigits, parseMark, parseOffset, parseBased, parseUnstarred, parseGenomic, parseResidual}
+use Rattle.na_edits.specs.Alphabet.{Alphabet, nucleotides}
+use Rattle.na_edits.specs.Choice.{onSome}
+use Rattle.na_edits.specs.Parse.{parseIdent, parseSubst, inserted, afterDelNum, afterDel, afterInv, parseDel, parseIns, parseDup, parseInv, parseNaEdit}
+use Rattle.protein_edits.specs.Canon.{canonTerminal}
+use Rattle.protein_edits.specs.Parse.{bytesOf, terminalAt, lengthAt, stopAt, earlierWith, earlierAt, extEndAt, residuesBehind, insertedAt, wordedAt, parseWith, parse as parseProteinEdit}
+use Rattle.headers.specs.Optionals.{isThere, parseOptional}
+use Rattle.headers.specs.Parse.{parseAccession, parseGene, parseHeader}
+use Rattle.headers.specs.Kinds.{firstKind, parseKind}
+use Rattle.headers.specs.Canonical.{canonHeader}
+use Rattle.bodies.specs.ProteinBodies.{firstExact, parseOpened, parsePlain, parseOrdinary, parseProteinBody}
+use Rattle.bodies.specs.WholeText.{parseText, sound-text, complete-text}
+use Rattle.promise.specs.Outcome.{Outcome.refused, limit}
+use Rattle.promise.specs.Reading.{Reads, Reads.tooLong, Reads.notInGrammar, Reads.doesNotFit}
+use Rattle.promise.specs.Writing.{ReadsAsValue, ShortestText}
+use Rattle.canon.specs.TextCanon.{canonText, reads-canon, text-none}
+
+abbrev alphabets : (k : Kind) → Alphabet (allLetters k)
+alphabets k = nucleotides
+
+-- ---- what a row says
+-- the value is a location and an edit, or a protein body without location, and this is its shortest text; or the refusal's number and place
+pub data Result : Type 0 where
+  change plain : List ℕ → Result
+  refusal : (number place : ℕ) → Result
+
+-- a text, and what becomes of it
+pub data Row : Type 0 where
+  row : List ℕ → Result → Row
+
+abbrev pub isOrdinary : ProteinBodyV → Bool
+isOrdinary (ordinary b) = true
+isOrdinary noChangeV = false
+isOrdinary noChangeUncertainV = false
+isOrdinary noProteinV = false
+isOrdinary noProteinUncertainV = false
+isOrdinary unknownV = false
+isOrdinary initiationUncertain = false
+
+abbrev pub hasLocation : Value → Bool
+hasLocation (value h Cds b) = true
+hasLocation (value h Genome b) = true
+hasLocation (value h Mt b) = true
+hasLocation (value h Tx b) = true
+hasLocation (value h Prot b) = isOrdinary b
+hasLocation (value h Rna b) = true
+
+-- t reads as a value with or without location whose shortest text is u
+pub record Rewritten (location : Bool) (t u : List ℕ) : Type 0 where
+  pub means : Value
+  pub form : hasLocation means ≡ location
+  pub reads : ReadsAsValue allLetters t means
+  pub shortest : ShortestText allLetters u means
+
+abbrev pub Holds : Row → Type 0
+Holds (row t (change u)) = Rewritten true t u
+Holds (row t (plain u)) = Rewritten false t u
+Holds (row t (refusal number place)) = Reads allLetters t (refused number place)
+
+abbrev pub AllHold : List Row → Type 0
+AllHold [] = Unit
+AllHold (r ∷ rs) = Holds r × AllHold rs
+
+-- ---- what becomes of a text, computed
+abbrev given : Bool → List ℕ → Result
+given true u = change u
+given false u = plain u
+
+-- the place of a misfit, the form of the value, its canonical text
+abbrev rewritten : Option ℕ → Bool → Option Text → Result
+rewritten (some place) location o = refusal 3 place
+rewritten none location (some y) = given location (print y)
+rewritten none location none = refusal 5 0
+
+abbrev onTree : Option Text → Result
+onTree none = refusal 2 0
+onTree (some x) = rewritten (misfit (numbersAt 0 x)) (hasLocation (meaning x)) (canonText allLetters alphabets (meaning x))
+
+abbrev answer : List ℕ → Result
+answer t = cond (leb (length t) limit) (onTree (parseText allLetters alphabets t)) (refusal 1 0)
+
+given-holds : (location : Bool) (t u : List ℕ) → Rewritten location t u → Holds (row t (given location u))
+given-holds true t u r = r
+given-holds false t u r = r
+
+answer-holds : (t : List ℕ) → Holds (row t (answer t))
+answer-holds t = go (leb (length t) limit) refl
+  where
+    fitting : length t ≤ limit → (x : Text) → parseText allLetters alphabets t ≡ some x → (m : Option ℕ) → misfit (numbersAt 0 x) ≡ m → Holds (row t (rewritten m (hasLocation (meaning x)) (canonText allLetters alphabets (meaning x))))
+    fitting l x e (some place) f = let s = sound-text allLetters alphabets t x e in doesNotFit l x (record { wf = s .0; text = s .1 }) place f
+    fitting l x e none f =
+        let s = sound-text allLetters alphabets t x e in
+        let r : ReadsAsValue allLetters t (meaning x) = record { tree = x; wf = s .0; fits = f; text = s .1; means = refl } in
+        let c = reads-canon allLetters alphabets (meaning x) t r in
+        rw (c .found) (given-holds (hasLocation (meaning x)) t (print (c .tree)) (record { means = meaning x; form = refl; reads = r; shortest = c .shortest }))
+
+    tree : length t ≤ limit → (o : Option Text) → parseText allLetters alphabets t ≡ o → Holds (row t (onTree o))
+    tree l none e = notInGrammar l (λ x w. none-some (sym e ∙ ap (parseText allLetters alphabets) (sym (w .text)) ∙ complete-text allLetters alphabets x (w .wf)))
+    tree l (some x) e = fitting l x e (misfit (numbersAt 0 x)) refl
+
+    go : (b : Bool) → leb (length t) limit ≡ b → Holds (row t (cond b (onTree (parseText allLetters alphabets t)) (refusal 1 0)))
+    go true e = tree (leb-true (length t) limit e) (parseText allLetters alphabets t) refl
+    go false e = tooLong (leb-false (length t) limit e)
+
+abbrev answered : Row → Row
+answered (row t o) = row t (answer t)
+
+answered-hold : (rs : List Row) → AllHold (map answered rs)
+answered-hold [] = tt
+answered-hold (row t o ∷ rs) = (answer-holds t, answered-hold rs)
+
+all-hold : (rs : List Row) → map answered rs ≡ rs → AllHold rs
+all-hold rs e = rw e at (answered-hold rs)
+
+-- ---- the table
+abbrev pub under : String → List ℕ
+under body = ascii "AB_12.3:" ++ ascii body
+
+abbrev pub pairs : List Row
+pairs =
+    row (under "c.76+0del") (change (under "c.76+0del")) ∷
+    row (under "c.76-0del") (change (under "c.76+0del")) ∷
+    row (under "c.-2147483648del") (change (under "c.-2147483648del")) ∷
+    row (under "c.-2147483649del") (refusal 3 11) ∷
+    row (under "c.-0del") (change (under "c.0del")) ∷
+    row (under "c.*5-3del") (change (under "c.*5-3del")) ∷
+    row (under "n.*5del") (refusal 2 0) ∷
+    row (under "g.?_?del") (change (under "g.?del")) ∷
+    row (under "c.1delAinsT") (change (under "c.1A>T")) ∷
+    row (under "c.1delAins") (refusal 2 0) ∷
+    row (under "c.(76del)") (refusal 2 0) ∷
+    row (under "p.Met01?") (change (under "p.Met01?")) ∷
+    row (under "p.Met1_Met1?") (change (under "p.Met01?")) ∷
+    row (under "p.(Met1)(?)") (change (under "p.(Met01?)")) ∷
+    row (under "p.(Met1?)") (plain (under "p.Met1?")) ∷
+    row (under "p.(Met1)?") (change (under "p.(Met1)?")) ∷
+    row (under "p.Gly2extTer-0") (change (under "p.Gly2extTer0")) ∷
+    row (under "p.Gly2extMet-0") (change (under "p.Gly2extMet-0")) ∷
+    []
+
+pairs-answered : map answered pairs ≡ pairs
+unfolding every run front behind starts same nucleotide residue letter digit alphanumeric rows residueLen threesLen residuesLen oneOf isThree isOne isResidue threes isResidues valFrom decUpTo saturated whole parseMu parseBoth parseInterval onDigits parseMark parseOffset parseBased parseUnstarred parseGenomic parseResidual onSome parseIdent parseSubst inserted afterDelNum afterDel afterInv parseDel parseIns parseDup parseInv parseNaEdit canonTerminal bytesOf terminalAt lengthAt stopAt earlierWith earlierAt extEndAt residuesBehind insertedAt wordedAt parseWith parseProteinEdit isThere parseOptional parseAccession parseGene parseHeader firstKind parseKind canonHeader firstExact parseOpened parsePlain parseOrdinary parseProteinBody parseText
+pairs-answered = refl
+
+pub pairs-hold : AllHold pairs
+pairs-hold = all-hold pairs pairs-answered
+
+-- ---- made records that no text reads as: Ext with Met and change 5, and RefAlt with letters removed and none new
+abbrev made : (k : Kind) → BodyV k → Value
+made k b = value (headerV (ascii "AB_12.3") none) k b
+
+abbrev pub madeRecords : List Value
+madeRecords =
+    made Prot (ordinary (both (certain (both (protPosV (ascii "Gly") (pos 2)) (protPosV (ascii "Gly") (pos 2)))) (certain (extV none (some (ascii "Met")) (Known (pos 5)))))) ∷
+    made Genome (both (certain (both (At (pos 1)) (At (pos 1)))) (certain (refAlt (ascii "A") []))) ∷
+    []
+
+abbrev pub NoTexts : List Value → Type 0
+NoTexts [] = Unit
+NoTexts (v ∷ vs) = ((t : List ℕ) → ReadsAsValue allLetters t v → ⊥) × NoTexts vs
+
+no-texts : (vs : List Value) → map (canonText allLetters alphabets) vs ≡ map (λ v. none) vs → NoTexts vs
+no-texts [] e = tt
+no-texts (v ∷ vs) e = (text-none allLetters alphabets v (cc), no-texts vs (cc))
+
+made-answered : map (canonText allLetters alphabets) madeRecords ≡ map (λ v. none) madeRecords
+unfolding every same starts run front behind nucleotide residue letter digit alphanumeric rows oneOf isThree isOne isResidue decUpTo whole canonTerminal isThere parseOptional parseAccession canonHeader
+made-answered = refl
+
+pub made-hold : NoTexts madeRecords
+made-hold = no-texts madeRecords made-answered

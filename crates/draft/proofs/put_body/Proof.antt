@@ -1,0 +1,62 @@
+-- `draft::put_body` meets its contract.
+use native.Mathlib.Omega.{arith}
+use Rattle.draft.specs.Texts.{bodyText}
+use Rattle.draft.specs.Laws.{body-length}
+use Rattle.emit.proofs.Laws.{then}
+use borrow.Author.Needs.{needs}
+use Rattle.draft.proofs.put_body.Statement.{statement}
+use Rattle.draft.proofs.put_body.Tie as tie
+
+-- the function's start, from each call
+abbrev start-1 : tie.After-put-place-arg → tie.Start
+start-1 c = c .before .before .before .before .before
+
+abbrev start-2 : tie.After-put-mark-arg → tie.Start
+start-2 c = start-1 (c .before .before .before .before)
+
+abbrev start-3 : tie.After-put-row-arg → tie.Start
+start-3 c = start-2 (c .before .before .before .before)
+
+abbrev start-4 : tie.After-put-mark-arg2 → tie.Start
+start-4 c = start-3 (c .before .before .before .before)
+
+put-place-requires : tie.Need-put-place-requires
+put-place-requires c κs = let a = start-1 c .args in omega (arith, body-length (a .source .now) (a .b))
+
+put-mark-requires : tie.Need-put-mark-requires
+put-mark-requires c κs = let a = start-2 c .args in omega (arith, body-length (a .source .now) (a .b))
+
+put-row-requires : tie.Need-put-row-requires
+put-row-requires c κs = let a = start-3 c .args in omega (arith, body-length (a .source .now) (a .b))
+
+put-mark-requires-2 : tie.Need-put-mark-requires-2
+put-mark-requires-2 c κs = let a = start-4 c .args in omega (arith, body-length (a .source .now) (a .b))
+
+same-length : tie.Need-same-length
+same-length c = search needs
+
+returns : tie.Need-returns
+unfolding bodyText
+returns c =
+    let p4 = c .before .before in
+    let p3 = p4 .before .before .before .before in
+    let p2 = p3 .before .before .before .before in
+    let p1 = p2 .before .before .before .before in
+    let s = start-1 (p1 .before) in
+    let room = s .pre in
+    let n = body-length (s .args .source .now) (s .args .b) in
+    then _ _ _ _ (omega arith) (p1 .put-place .ensures)
+    (then _ _ _ _ (omega arith) (p2 .put-mark .ensures)
+    (then _ _ _ _ (omega arith) (p3 .put-row .ensures)
+    (p4 .put-mark2 .ensures)))
+
+pub put-body-spec : {M : Type 1} → statement M
+put-body-spec =
+    tie.close
+    (tie.spec
+    put-place-requires
+    put-mark-requires
+    put-row-requires
+    put-mark-requires-2
+    same-length
+    returns)

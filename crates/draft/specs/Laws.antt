@@ -1,0 +1,47 @@
+-- Lengths of a draft's texts, and what writing one answers.
+use Prim.Native.Nat.{ℕ, _+_, _≤_, _<_}
+use mathlib.Core.Path.{_≡_, refl, _∙_}
+use mathlib.Core.List.{List, _++_}
+use native.Mathlib.Omega.{arith}
+use lib.ListN.{length, length-append}
+use borrow.Author.Tests.{le-leb, lt-leb}
+use Rattle.lent.specs.Put.{put, put-front}
+use Rattle.record.specs.declared.answers.WriteAnswer.the-variants.{Written, TooLong, NoRoom}
+use Rattle.grammar.specs.Spans.{part}
+use Rattle.grammar.specs.Header.{printKind}
+use Rattle.emit.specs.Texts.{markText, rowText, placeText}
+use Rattle.emit.specs.Laws.{kind-length}
+use Rattle.draft.specs.declared.Heading.{Heading}
+use Rattle.draft.specs.declared.Body.{Body}
+use Rattle.draft.specs.declared.Draft.{Draft}
+use Rattle.draft.specs.Texts.{headingText, bodyText, draftText, answered, left}
+
+module _ (s : List ℕ) where
+  pub heading-length : (h : Heading) → length (headingText s h) ≡ length (part s (h .accession)) + length (markText (h .opening)) + length (part s (h .gene)) + length (markText (h .closing)) + length (printKind (h .kind))
+  unfolding headingText
+  heading-length h = simp length-append (omega arith)
+
+  pub heading-short : (h : Heading) → length (printKind (h .kind)) ≡ 3
+  heading-short h = kind-length (h .kind)
+
+  pub body-length : (b : Body) → length (bodyText s b) ≡ length (placeText s (b .place)) + length (markText (b .opening)) + length (rowText s (b .row)) + length (markText (b .closing))
+  unfolding bodyText
+  body-length b = simp length-append (omega arith)
+
+  pub draft-length : (d : Draft) → length (draftText s d) ≡ length (headingText s (d .heading)) + length (bodyText s (d .body))
+  unfolding draftText
+  draft-length d = length-append (headingText s (d .heading)) (bodyText s (d .body))
+
+-- ---- what writing a text answers and leaves
+module _ (t output : List ℕ) where
+  pub too-long : 4096 < length t → (TooLong ≡ answered t output) × (output ≡ left t output)
+  unfolding answered left
+  too-long h = rw (lt-leb (length t) 4096 h) (refl, refl)
+
+  pub no-room : length t ≤ 4096 → length output < length t → (NoRoom ≡ answered t output) × (output ≡ left t output)
+  unfolding answered left
+  no-room h k = rw (le-leb (length t) 4096 h, lt-leb (length t) (length output) k) (refl, refl)
+
+  pub written : length t ≤ 4096 → length t ≤ length output → (Written (length t) ≡ answered t output) × (put output 0 t ≡ left t output)
+  unfolding answered left
+  written h k = rw (le-leb (length t) 4096 h, le-leb (length t) (length output) k) (refl, put-front output t)

@@ -1,0 +1,128 @@
+// A whole text that is to be written: how long it is, and its bytes at the front of lent room, where there is room.
+use emit::Mark;
+use emit::Place;
+use emit::Row;
+use record::answers::WriteAnswer;
+use record::spans::Span;
+use record::variant::Kind;
+ghost use mathlib.Core.Path.{_≡_};
+ghost use Prim.Native.Nat.{_+_, _*_, _≤_};
+ghost use lib.ListN.{length};
+ghost use Rattle.lent.specs.Put.{put};
+ghost use Rattle.draft.specs.Texts.{headingText, bodyText, draftText, answered, left};
+
+// The accession, the gene in brackets or nothing, and the kind.
+pub struct Heading {
+    pub accession: Span,
+    pub opening: Mark,
+    pub gene: Span,
+    pub closing: Mark,
+    pub kind: Kind,
+}
+
+// A location, and an edit in brackets or none; each may be missing.
+pub struct Body {
+    pub place: Place,
+    pub opening: Mark,
+    pub row: Row,
+    pub closing: Mark,
+}
+
+pub struct Draft {
+    pub heading: Heading,
+    pub body: Body,
+}
+
+fn heading_len(source: &[u8], h: Heading) -> usize
+    requires { ⌜ length (now source) ≤ 4096 ⌝ }
+    ensures { λ r. ⌜ (r ≡ length (headingText (now (source .entry)) h)) × (r ≤ 2 * 4096 + 5) ⌝ }
+{
+    let accession = h.accession;
+    let opening = h.opening;
+    let gene = h.gene;
+    let closing = h.closing;
+    emit::part_len(source, accession)
+        + emit::mark_len(opening)
+        + emit::part_len(source, gene)
+        + emit::mark_len(closing)
+        + 3
+}
+
+fn put_heading(source: &[u8], out: &mut [u8], at: usize, h: Heading) -> usize
+    requires { ⌜ at + length (headingText (now source) h) ≤ length (now out) ⌝ }
+    ensures { λ r. ⌜ (r ≡ at + length (headingText (now (source .entry)) h)) × (now (out .exit) ≡ put (now (out .entry)) at (headingText (now (source .entry)) h)) ⌝ }
+{
+    let accession = h.accession;
+    let opening = h.opening;
+    let gene = h.gene;
+    let closing = h.closing;
+    let kind = h.kind;
+    let at = emit::put_part(source, out, at, accession);
+    let at = emit::put_mark(out, at, opening);
+    let at = emit::put_part(source, out, at, gene);
+    let at = emit::put_mark(out, at, closing);
+    emit::put_kind(out, at, kind)
+}
+
+fn body_len(source: &[u8], b: Body) -> usize
+    requires { ⌜ length (now source) ≤ 4096 ⌝ }
+    ensures { λ r. ⌜ (r ≡ length (bodyText (now (source .entry)) b)) × (r ≤ 5 * 4096 + 72) ⌝ }
+{
+    let place = b.place;
+    let opening = b.opening;
+    let row = b.row;
+    let closing = b.closing;
+    emit::place_len(source, place)
+        + emit::mark_len(opening)
+        + emit::row_len(source, row)
+        + emit::mark_len(closing)
+}
+
+fn put_body(source: &[u8], out: &mut [u8], at: usize, b: Body) -> usize
+    requires { ⌜ at + length (bodyText (now source) b) ≤ length (now out) ⌝ }
+    ensures { λ r. ⌜ (r ≡ at + length (bodyText (now (source .entry)) b)) × (now (out .exit) ≡ put (now (out .entry)) at (bodyText (now (source .entry)) b)) ⌝ }
+{
+    let place = b.place;
+    let opening = b.opening;
+    let row = b.row;
+    let closing = b.closing;
+    let at = emit::put_place(source, out, at, place);
+    let at = emit::put_mark(out, at, opening);
+    let at = emit::put_row(source, out, at, row);
+    emit::put_mark(out, at, closing)
+}
+
+fn draft_len(source: &[u8], d: Draft) -> usize
+    requires { ⌜ length (now source) ≤ 4096 ⌝ }
+    ensures { λ r. ⌜ r ≡ length (draftText (now (source .entry)) d) ⌝ }
+{
+    let heading = d.heading;
+    let body = d.body;
+    heading_len(source, heading) + body_len(source, body)
+}
+
+fn put_draft(source: &[u8], out: &mut [u8], at: usize, d: Draft) -> usize
+    requires { ⌜ at + length (draftText (now source) d) ≤ length (now out) ⌝ }
+    ensures { λ r. ⌜ (r ≡ at + length (draftText (now (source .entry)) d)) × (now (out .exit) ≡ put (now (out .entry)) at (draftText (now (source .entry)) d)) ⌝ }
+{
+    let heading = d.heading;
+    let body = d.body;
+    let at = put_heading(source, out, at, heading);
+    put_body(source, out, at, body)
+}
+
+// The text at the front of output, where it is not too long and has room; else nothing is written.
+pub fn write_draft(source: &[u8], d: Draft, output: &mut [u8]) -> WriteAnswer
+    requires { ⌜ length (now source) ≤ 4096 ⌝ }
+    ensures { λ r. ⌜ (r ≡ answered (draftText (now (source .entry)) d) (now (output .entry))) × (now (output .exit) ≡ left (draftText (now (source .entry)) d) (now (output .entry))) ⌝ }
+{
+    let n = draft_len(source, d);
+    if 4096 < n {
+        return WriteAnswer::TooLong;
+    }
+    if output.len() < n {
+        return WriteAnswer::NoRoom;
+    }
+    put_draft(source, output, 0, d);
+    WriteAnswer::Written(n)
+}

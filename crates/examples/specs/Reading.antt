@@ -1,0 +1,139 @@
+-- What reading answers to a text: the record with the spans of its parts, or the number of a refusal and its place.
+use Prim.Native.Nat.{ℕ}
+use Prim.Native.Char.{code}
+use mathlib.Core.Path.{_≡_, refl}
+use mathlib.Core.List.{List, [], _∷_, _++_}
+use mathlib.Core.Option.{Option, none, some}
+use mathlib.Core.Bool.{Bool, true, false, cond}
+use lib.Dec.{leb}
+use lib.IntN.{ℤ, pos, negsuc}
+use lib.ListN.{length, replicate}
+use borrow.Author.Tests.{leb-true, leb-false}
+use Rattle.texts.specs.Ascii.{ascii}
+use Rattle.number.specs.Digits.{valFrom}
+use Rattle.number.specs.Reading.{saturated}
+use Rattle.record.specs.declared.spans.Span.{Span}
+use Rattle.record.specs.declared.spans.Part.{Part}
+use Rattle.record.specs.declared.spans.Part.the-variants as Pt
+use Rattle.record.specs.declared.positions.Offset.{Offset}
+use Rattle.record.specs.declared.positions.Offset.the-variants.{Absent, By}
+use Rattle.record.specs.declared.positions.CdsFrom.{CdsFrom}
+use Rattle.record.specs.declared.positions.CdsFrom.the-variants.{Start, End}
+use Rattle.record.specs.declared.positions.CdsPos.{CdsPos}
+use Rattle.record.specs.declared.positions.ProtPos.{ProtPos}
+use Rattle.record.specs.declared.positions.GenomePos.the-variants.{Unknown}
+use Rattle.record.specs.declared.positions.MuCdsInterval.the-variants as MuCds
+use Rattle.record.specs.declared.positions.MuGenomeInterval.the-variants as MuGenome
+use Rattle.record.specs.declared.positions.MuProtInterval.the-variants as MuProt
+use Rattle.record.specs.declared.edits.NaEdit as D
+use Rattle.record.specs.declared.edits.NaEdit.the-variants.{RefAlt, DelRef}
+use Rattle.record.specs.declared.edits.MuNaEdit.the-variants as MuNa
+use Rattle.record.specs.declared.edits.UncertainLengthChange.the-variants.{Known}
+use Rattle.record.specs.declared.edits.ProteinEdit.the-variants.{Subst, Ext}
+use Rattle.record.specs.declared.edits.MuProteinEdit.the-variants as MuPr
+use Rattle.record.specs.declared.variant.ProtLocEdit.the-variants.{Ordinary, InitiationUncertain}
+use Rattle.record.specs.declared.variant.Body.{Body}
+use Rattle.record.specs.declared.variant.Body.the-variants as Bo
+use Rattle.record.specs.declared.answers.ReadAnswer.{ReadAnswer}
+use Rattle.record.specs.declared.answers.ReadAnswer.the-variants.{Accepted, TooLong, NotInGrammar, DoesNotFit}
+use Rattle.grammar.specs.Texts.{Text, allLetters}
+use Rattle.grammar.specs.Records.{recordAt}
+use Rattle.grammar.specs.Numbers.{misfit, numbersAt}
+use Rattle.promise.specs.Outcome.{readOutcome, limit}
+use Rattle.promise.specs.Reading.{Reads, Reads.tooLong, Reads.notInGrammar, Reads.doesNotFit, Reads.accepted}
+use Rattle.reader.specs.Unique.{one-answer}
+use Rattle.examples.specs.Tables.{Each, each-so, columns, Row, row}
+use Rattle.examples.specs.Parsing.{parser, computing, found, nothing-found}
+
+-- ---- the one answer to a text, computed
+abbrev onMisfit : Text → Option ℕ → ReadAnswer
+onMisfit x none = Accepted (recordAt 0 x)
+onMisfit x (some place) = DoesNotFit place
+
+abbrev onTree : Option Text → ReadAnswer
+onTree none = NotInGrammar
+onTree (some x) = onMisfit x (misfit (numbersAt 0 x))
+
+abbrev answer : List ℕ → ReadAnswer
+answer t = cond (leb (length t) limit) (onTree (parser t)) TooLong
+
+answer-reads : (t : List ℕ) → Reads allLetters t (readOutcome (answer t))
+answer-reads t = go (leb (length t) limit) refl
+  where
+    fitting : (x : Text) (m : Option ℕ) → leb (length t) limit ≡ true → parser t ≡ some x → misfit (numbersAt 0 x) ≡ m → Reads allLetters t (readOutcome (onMisfit x m))
+    fitting x none h e f = accepted (leb-true (length t) limit h) x (found t x e) f
+    fitting x (some place) h e f = doesNotFit (leb-true (length t) limit h) x (found t x e) place f
+
+    tree : (o : Option Text) → leb (length t) limit ≡ true → parser t ≡ o → Reads allLetters t (readOutcome (onTree o))
+    tree none h e = notInGrammar (leb-true (length t) limit h) (nothing-found t e)
+    tree (some x) h e = fitting x (misfit (numbersAt 0 x)) h e refl
+
+    go : (b : Bool) → leb (length t) limit ≡ b → Reads allLetters t (readOutcome (cond b (onTree (parser t)) TooLong))
+    go true h = tree (parser t) h refl
+    go false h = tooLong (leb-false (length t) limit h)
+
+-- ---- the table
+abbrev cut : ℕ → ℕ → Span
+cut a b = record { start = a; end = b }
+
+-- an accepted text: where the accession ends, the gene, the body
+abbrev variant : ℕ → Part → Body → ReadAnswer
+variant n gene b = Accepted (record { header = record { accession = cut 0 n; «gene_symbol» = gene }; body = b })
+
+-- c: a base, an offset, from where; its edit
+abbrev cds : ℤ → Offset → CdsFrom → D.NaEdit → Body
+cds n o f e =
+    let p : CdsPos = record { base = n; offset = o; «cds_from» = f } in
+    Bo.Cds (record { loc = MuCds.Certain (record { start = p; end = p }); edit = MuNa.Certain e })
+
+-- p: a residue and its number
+abbrev residue : ℕ → ℕ → ℤ → ProtPos
+residue a b n = record { aa = cut a b; number = n }
+
+abbrev pub answers : List (Row ReadAnswer)
+answers =
+    row "AB_12.3:c.76+0del" (variant 7 Pt.Absent (cds (pos 76) (By (pos 0)) Start (DelRef (cut 17 17)))) ∷
+    row "AB_12.3:c.*5-3del" (variant 7 Pt.Absent (cds (pos 5) (By (negsuc 2)) End (DelRef (cut 17 17)))) ∷
+    row "AB_12.3:c.-2147483648del" (variant 7 Pt.Absent (cds (negsuc 2147483647) Absent Start (DelRef (cut 24 24)))) ∷
+    row "AB_12.3:c.-2147483649del" (DoesNotFit 11) ∷
+    row "AB_12.3:c.-0del" (variant 7 Pt.Absent (cds (pos 0) Absent Start (DelRef (cut 15 15)))) ∷
+    row "AB_12.3:c.1delAinsT" (variant 7 Pt.Absent (cds (pos 1) Absent Start (RefAlt (cut 14 15) (cut 18 19)))) ∷
+    row "AB_12.3:c.1A>T" (variant 7 Pt.Absent (cds (pos 1) Absent Start (RefAlt (cut 11 12) (cut 13 14)))) ∷
+    row "AB_12.3:g.?_?del" (variant 7 Pt.Absent (Bo.Genome (record { loc = MuGenome.Certain (record { start = Unknown; end = Unknown }); edit = MuNa.Certain (DelRef (cut 16 16)) }))) ∷
+    row "AB_12.3(KIT):p.(Gly2Arg)" (variant 7 (Pt.Present (cut 8 11)) (Bo.Prot (Ordinary (MuProt.Uncertain (record { start = residue 16 19 (pos 2); end = residue 16 19 (pos 2) })) (MuPr.Uncertain (Subst (cut 20 23)))))) ∷
+    row "AB_12.3:p.Gly2extMet-0" (variant 7 Pt.Absent (Bo.Prot (Ordinary (MuProt.Certain (record { start = residue 10 13 (pos 2); end = residue 10 13 (pos 2) })) (MuPr.Certain (Ext Pt.Absent (Pt.Present (cut 17 20)) (Known (pos 0))))))) ∷
+    row "AB_12.3:p.(Met1?)" (variant 7 Pt.Absent (Bo.Prot InitiationUncertain)) ∷
+    -- the header's digits are no number, those of a position are
+    row "AB_12.99999999999:c.1del" (variant 17 Pt.Absent (cds (pos 1) Absent Start (DelRef (cut 24 24)))) ∷
+    row "AB_12.3:c.12345678901del" (DoesNotFit 10) ∷
+    row "AB_12.3:g.2147483648del" (DoesNotFit 10) ∷
+    -- the leftmost of two
+    row "AB_12.3:g.5_99999999999del99999999999" (DoesNotFit 12) ∷
+    row "AB_12.3:p.Gly2extMet-2147483648" (DoesNotFit 21) ∷
+    -- a number that would not fit, in a text that is not in the grammar
+    row "AB_12.3:g.2147483648" NotInGrammar ∷
+    row "AB_12.3:c.1delAins" NotInGrammar ∷
+    row "" NotInGrammar ∷
+    row "hello" NotInGrammar ∷
+    -- 4,096 bytes may be read, one more is too long
+    record { written = ascii "AB_12.3:c.1del" ++ replicate 4082 (code "A"); beside = variant 7 Pt.Absent (cds (pos 1) Absent Start (DelRef (cut 14 4096))) } ∷
+    record { written = ascii "AB_12.3:c.1del" ++ replicate 4083 (code "A"); beside = TooLong } ∷
+    []
+
+abbrev Computed : Row ReadAnswer → Type 0
+Computed r = answer r.written ≡ r.beside
+
+computed : Each Computed answers
+unfolding computing valFrom saturated
+computed = columns (λ r. answer r.written) (λ r. r.beside) answers refl
+
+-- it meets the reader's contract, and no other does
+pub record IsAnswer (t : List ℕ) (a : ReadAnswer) : Type 0 where
+  pub reads : Reads allLetters t (readOutcome a)
+  pub only : (b : ReadAnswer) → Reads allLetters t (readOutcome b) → b ≡ a
+
+is-answer : (r : Row ReadAnswer) → Computed r → IsAnswer r.written r.beside
+is-answer r e = rw (← e) (record { reads = answer-reads r.written; only = λ b h. one-answer r.written b (answer r.written) h (answer-reads r.written) })
+
+pub answers-are : Each (λ r. IsAnswer r.written r.beside) answers
+answers-are = each-so Computed _ is-answer answers computed

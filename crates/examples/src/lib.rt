@@ -1,0 +1,1 @@
+// Worked examples of document 01's language, as theorems.
