@@ -39,7 +39,7 @@ fn optional(s: &[u8], word: &[u8], class: Class) -> usize
 }
 
 // The bytes of the accession; 0 where there is none.
-fn accession(s: &[u8]) -> usize
+pub fn accession(s: &[u8]) -> usize
     ensures { λ r. ⌜ r ≡ accessionLength (parseAccession (now (s .entry))) ⌝ }
 {
     if s.len() == 0 {

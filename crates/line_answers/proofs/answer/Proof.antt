@@ -1,0 +1,29 @@
+use mathlib.Core.Path.{sym}
+use native.Mathlib.Omega.{arith}
+use lib.Seq.{length-take-le}
+use borrow.Author.Needs.{needs}
+use Rattle.line_answers.proofs.answer.Statement.{statement}
+use Rattle.line_answers.proofs.answer.Tie as tie
+
+slice-aggregate-text : tie.Need-slice-aggregate-text
+slice-aggregate-text c = let a = c .before .before .before .args in sym (length-take-le (a .line .len) (a .buffer .now) (omega arith))
+
+read-requires : tie.Need-read-requires
+read-requires c κs = search needs
+
+answer-requires : tie.Need-answer-requires
+answer-requires c κs = search needs
+
+byte-requires : tie.Need-byte-requires
+byte-requires c κs = search needs
+
+same-length : tie.Need-same-length
+same-length c = search needs
+
+returns : tie.Need-returns
+returns c = search needs
+
+pub answer-spec : {M : Type 1} → statement M
+answer-spec =
+    tie.close
+    (tie.spec slice-aggregate-text read-requires answer-requires byte-requires same-length returns)

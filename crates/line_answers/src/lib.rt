@@ -1,0 +1,160 @@
+// For each line of standard input the answer to reading it, on a line of standard output.
+use libc::STDIN_FILENO;
+use libc::STDOUT_FILENO;
+use lines::Line;
+use lines::Progress;
+use record::answers::ReadAnswer;
+ghost use Prim.Native.Nat.{_≤_};
+ghost use lib.ListN.{length};
+
+// An answer and LF are shorter: a record names no byte of its text more than twice.
+const MOST: usize = 16384;
+
+fn read(text: &[u8], long: bool) -> ReadAnswer {
+    if long {
+        return ReadAnswer::TooLong;
+    }
+    reader::read(text)
+}
+
+// The answer to a line, and LF.
+fn answer(buffer: &[u8], line: Line, out: &mut [u8], at: usize) -> usize
+    requires { ⌜ line .len ≤ length (now buffer) ⌝ }
+    ensures { λ r. ⌜ r ≤ length (now (out .entry)) ⌝ }
+{
+    let len = line.len;
+    let text = &buffer[..len];
+    let behind = show::answer(text, out, at, read(text, line.long));
+    show::room::byte(out, behind, b'\n')
+}
+
+// One line of the piece, or as much of one as there is.
+fn turn(piece: &[u8], buffer: &mut [u8], line: Line, out: &mut [u8], at: usize) -> Progress
+    requires { ⌜ (line .len ≤ length (now buffer)) × (at ≤ length (now out)) ⌝ }
+    ensures { λ r. ⌜ (r .used ≤ length (now (piece .entry))) × (1 ≤ length (now (piece .entry)) → 1 ≤ r .used) × (r .line .len ≤ length (now (buffer .entry))) × (r .at ≤ length (now (out .entry))) ⌝ }
+{
+    let t = lines::take(piece, buffer, line);
+    let next = t.line;
+    if !t.complete {
+        return Progress {
+            used: t.used,
+            line: next,
+            at,
+        };
+    }
+    let behind = answer(buffer, next, out, at);
+    Progress {
+        used: t.used,
+        line: lines::no_line(),
+        at: behind,
+    }
+}
+
+// Lines of the piece, while there is room for one more answer.
+fn step(piece: &[u8], buffer: &mut [u8], line: Line, out: &mut [u8]) -> Progress
+    requires { ⌜ line .len ≤ length (now buffer) ⌝ }
+    ensures { λ r. ⌜ (r .used ≤ length (now (piece .entry))) × (1 ≤ length (now (piece .entry)) → 1 ≤ r .used) × (r .line .len ≤ length (now (buffer .entry))) × (r .at ≤ length (now (out .entry))) ⌝ }
+{
+    let mut used: usize = 0;
+    let mut at: usize = 0;
+    let mut state = line;
+    while used < piece.len() {
+        let t = turn(&piece[used..], buffer, state, out, at);
+        used += t.used;
+        at = t.at;
+        let next = t.line;
+        state = next;
+        if out.len() - at < MOST {
+            return Progress {
+                used,
+                line: state,
+                at,
+            };
+        }
+    }
+    Progress {
+        used,
+        line: state,
+        at,
+    }
+}
+
+// Whether to go on, and the line so far.
+struct Gone {
+    going: bool,
+    line: Line,
+}
+
+// All of the piece; it goes on while what is made can be written.
+fn over(piece: &[u8], buffer: &mut [u8], line: Line, out: &mut [u8]) -> Gone
+    requires { ⌜ line .len ≤ length (now buffer) ⌝ }
+    ensures { λ r. ⌜ r .line .len ≤ length (now (buffer .entry)) ⌝ }
+{
+    let mut i: usize = 0;
+    let mut state = line;
+    while i < piece.len() {
+        let s = step(&piece[i..], buffer, state, out);
+        let at = s.at;
+        let next = s.line;
+        if !io::write_all(STDOUT_FILENO, &out[..at]) {
+            return Gone {
+                going: false,
+                line: next,
+            };
+        }
+        i += s.used;
+        state = next;
+    }
+    Gone {
+        going: true,
+        line: state,
+    }
+}
+
+// The last line, where it has a byte and no LF.
+fn finish(buffer: &[u8], line: Line, out: &mut [u8])
+    requires { ⌜ line .len ≤ length (now buffer) ⌝ }
+{
+    if lines::at_end(line) {
+        let at = answer(buffer, line, out, 0);
+        io::write_all(STDOUT_FILENO, &out[..at]);
+    }
+}
+
+// Reads once, and answers what came.
+fn once(input: &mut [u8], buffer: &mut [u8], line: Line, out: &mut [u8]) -> Gone
+    requires { ⌜ line .len ≤ length (now buffer) ⌝ }
+    ensures { λ r. ⌜ r .line .len ≤ length (now (buffer .entry)) ⌝ }
+{
+    let got = libc::read(STDIN_FILENO, input);
+    if got < 0 {
+        return Gone { going: false, line };
+    }
+    if got == 0 {
+        finish(buffer, line, out);
+        return Gone { going: false, line };
+    }
+    let n = io::count(got, input);
+    over(&input[..n], buffer, line, out)
+}
+
+fn every(input: &mut [u8], buffer: &mut [u8], out: &mut [u8]) {
+    let mut line = lines::no_line();
+    let mut turns = u64::MAX;
+    while turns > 0 {
+        let o = once(input, buffer, line, out);
+        if !o.going {
+            return;
+        }
+        let next = o.line;
+        line = next;
+        turns -= 1;
+    }
+}
+
+pub fn run() {
+    let mut input = io::large_buffer();
+    let mut buffer = [0u8; 4096];
+    let mut out = io::large_buffer();
+    every(&mut input, &mut buffer, &mut out);
+}

@@ -1,0 +1,110 @@
+-- What is to be written for a position and for a location of any kind, where it has a text.
+use Prim.Native.Nat.{ℕ}
+use Prim.Native.Char.{code}
+use mathlib.Core.List.{List}
+use mathlib.Core.Bool.{Bool, true, false, cond, _&&_}
+use lib.IntN.{ℤ, pos, negsuc, natAbs}
+use Rattle.number.specs.Reading.{fits}
+use Rattle.number.specs.Signs.{signOf}
+use Rattle.residue.specs.Residues.{isResidue}
+use Rattle.record.specs.declared.spans.Span.{Span}
+use Rattle.record.specs.declared.variant.Kind.{Kind}
+use Rattle.record.specs.declared.variant.Kind.the-variants.{Cds, Genome, Mt, Tx, Prot, Rna}
+use Rattle.record.specs.declared.positions.Offset.{Offset}
+use Rattle.record.specs.declared.positions.Offset.the-variants.{Absent, By}
+use Rattle.record.specs.declared.positions.CdsFrom.{CdsFrom}
+use Rattle.record.specs.declared.positions.CdsFrom.the-variants as From
+use Rattle.grammar.specs.Spans.{part}
+use Rattle.grammar.specs.Contents.{positionContent}
+use Rattle.location.specs.Equal.{eqℤ, eqPosition}
+use Rattle.read_location.specs.declared.Position.{Position}
+use Rattle.read_location.specs.declared.Location.{Location}
+use Rattle.read_location.specs.Records.{positionFor}
+use Rattle.emit.specs.Texts.{noSpan, noEnd}
+use Rattle.emit.specs.declared.Mark.{Mark}
+use Rattle.emit.specs.declared.Mark.the-variants.{Nothing, Byte}
+use Rattle.emit.specs.declared.Amount.{Amount}
+use Rattle.emit.specs.declared.Amount.the-variants as Amounts
+use Rattle.emit.specs.declared.End.{End}
+use Rattle.plan_location.specs.declared.EndPlan.{EndPlan}
+use Rattle.plan_location.specs.declared.EndPlan.the-variants as Ends
+use Rattle.plan_location.specs.declared.PlacePlan.{PlacePlan}
+use Rattle.plan_location.specs.declared.PlacePlan.the-variants as Places
+
+-- ---- numbers: an i32 holds them, as every number of a record
+unfoldable pub held : ℤ → Bool
+held z = fits (signOf z) (natAbs z)
+
+abbrev pub heldOffset : Offset → Bool
+heldOffset Absent = true
+heldOffset (By z) = held z
+
+-- `-` before a number below 0, and another mark before the rest
+abbrev pub signMark : Mark → ℤ → Mark
+signMark other (pos v) = other
+signMark other (negsuc v) = Byte (code "-")
+
+-- `+` before an offset of 0
+abbrev pub offsetSign : Offset → Mark
+offsetSign Absent = Nothing
+offsetSign (By z) = signMark (Byte (code "+")) z
+
+abbrev pub offsetAmount : Offset → Amount
+offsetAmount Absent = Amounts.Absent
+offsetAmount (By z) = Amounts.Count (natAbs z)
+
+-- ---- positions
+abbrev pub endOf : Span → Mark → ℤ → Offset → End
+endOf r m z o = record { residue = r; mark = m; number = Amounts.Count (natAbs z); sign = offsetSign o; offset = offsetAmount o }
+
+unfoldable pub endPlan : Span → Mark → ℤ → Offset → EndPlan
+endPlan r m z o = cond (held z && heldOffset o) (Ends.Text (endOf r m z o)) Ends.NoText
+
+abbrev pub unsignedPlan : Span → Mark → ℤ → Offset → EndPlan
+unsignedPlan r m (pos v) o = endPlan r m (pos v) o
+unsignedPlan r m (negsuc v) o = Ends.NoText
+
+abbrev pub basedPlan : CdsFrom → ℤ → Offset → EndPlan
+basedPlan From.Start z o = endPlan noSpan (signMark Nothing z) z o
+basedPlan From.End z o = unsignedPlan noSpan (Byte (code "*")) z o
+
+abbrev pub unknownEnd : End
+unknownEnd = record { residue = noSpan; mark = Byte (code "?"); number = Amounts.Absent; sign = Nothing; offset = Amounts.Absent }
+
+abbrev pub genomicPlan : Bool → ℤ → EndPlan
+genomicPlan isUnknown z = cond isUnknown (Ends.Text unknownEnd) (unsignedPlan noSpan Nothing z Absent)
+
+abbrev pub residualPlan : List ℕ → Span → ℤ → EndPlan
+residualPlan s aa z = cond (isResidue (part s aa)) (unsignedPlan aa Nothing z Absent) Ends.NoText
+
+abbrev pub positionPlan : List ℕ → Kind → Position → EndPlan
+positionPlan s Cds p = basedPlan (p .«cds_from») (p .number) (p .offset)
+positionPlan s Genome p = genomicPlan (p .unknown) (p .number)
+positionPlan s Mt p = genomicPlan (p .unknown) (p .number)
+positionPlan s Tx p = basedPlan From.Start (p .number) (p .offset)
+positionPlan s Prot p = residualPlan s (p .aa) (p .number)
+positionPlan s Rna p = basedPlan From.Start (p .number) (p .offset)
+
+-- ---- whether two are one
+abbrev pub eqGenomic : Bool → Bool → ℤ → ℤ → Bool
+eqGenomic isUnknown alsoUnknown v w = cond isUnknown alsoUnknown (cond alsoUnknown false (eqℤ v w))
+
+unfoldable pub samePosition : List ℕ → Kind → Position → Position → Bool
+samePosition s k p q = eqPosition k (positionContent s k (positionFor k p)) (positionContent s k (positionFor k q))
+
+-- ---- locations: in brackets where they are not certain
+abbrev pub bracketMark : Bool → ℕ → Mark
+bracketMark isCertain b = cond isCertain Nothing (Byte b)
+
+abbrev pub placePlan : Bool → EndPlan → Mark → EndPlan → PlacePlan
+placePlan isCertain (Ends.Text e) m (Ends.Text f) =
+    Places.Text (record { opening = bracketMark isCertain (code "("); start = e; joint = m; end = f; closing = bracketMark isCertain (code ")") })
+placePlan isCertain (Ends.Text e) m Ends.NoText = Places.NoText
+placePlan isCertain Ends.NoText m f = Places.NoText
+
+-- one position where both ends are one, else two
+unfoldable pub planLocation : List ℕ → Kind → Location → PlacePlan
+planLocation s k l =
+    cond (samePosition s k (l .start) (l .end))
+    (placePlan (l .certain) (positionPlan s k (l .start)) Nothing (Ends.Text noEnd))
+    (placePlan (l .certain) (positionPlan s k (l .start)) (Byte (code "_")) (positionPlan s k (l .end)))

@@ -1,0 +1,232 @@
+-- What is planned for a location is its canonical text; and nothing where it has none.
+use Prim.Native.Nat.{ℕ, suc}
+use Prim.Native.Char.{code}
+use mathlib.Core.Path.{_≡_, refl, sym, ap, _∙_}
+use mathlib.Core.List.{List, [], _∷_, _++_, append-nil, append-assoc}
+use mathlib.Core.Option.{Option, none, some}
+use mathlib.Core.Bool.{Bool, true, false, cond, _&&_}
+use lib.IntN.{ℤ, pos, negsuc, natAbs}
+use Rattle.texts.specs.Ascii.{ascii}
+use Rattle.texts.specs.Tests.{none-some}
+use Rattle.number.specs.declared.Sign.{Sign}
+use Rattle.number.specs.declared.Sign.the-variants.{Plain, Minus}
+use Rattle.number.specs.Digits.{dec}
+use Rattle.number.specs.Reading.{fits}
+use Rattle.number.specs.Signs.{signOf}
+use Rattle.residue.specs.Residues.{isResidue}
+use Rattle.record.specs.declared.spans.Span.{Span}
+use Rattle.record.specs.declared.variant.Kind.{Kind}
+use Rattle.record.specs.declared.variant.Kind.the-variants.{Cds, Genome, Mt, Tx, Prot, Rna}
+use Rattle.record.specs.declared.positions.Offset as Declared
+use Rattle.record.specs.declared.positions.Offset.the-variants.{Absent, By}
+use Rattle.record.specs.declared.positions.CdsFrom.{CdsFrom}
+use Rattle.record.specs.declared.positions.CdsFrom.the-variants.{Start, End}
+use Rattle.record.specs.declared.positions.GenomePos.the-variants as Genomes
+use Rattle.record.specs.declared.positions.MtPos.the-variants as Mts
+use Rattle.grammar.specs.Positions as G
+use Rattle.grammar.specs.Positions.{Mark.bare, Mark.minus, Mark.star, Offset, Genomic.known, Residual.residual, printMark, printOffset, printBased, printGenomic, printResidual, printPosition}
+use Rattle.grammar.specs.Shapes.{Interval, Interval.one, Interval.two, Mu, Mu.certain, Mu.uncertain, Both.both, printInterval, printMu}
+use Rattle.grammar.specs.Bodies.{printLocation}
+use Rattle.grammar.specs.Spans.{part}
+use Rattle.grammar.specs.Values.{ProtPosV.protPosV, PositionV}
+use Rattle.grammar.specs.Records.{PositionR, MuIntervalR}
+use Rattle.grammar.specs.Contents.{positionContent, locationContent}
+use Rattle.lang.specs.Canon.{mapO, bothO}
+use Rattle.location.specs.Equal.{eqPosition}
+use Rattle.location.specs.Canon.{digitsOf, unsignedDigits, canonOffset, marked, canonBased, canonGenomic, canonPosition}
+use Rattle.location.specs.Canonical.{locationCanon}
+use Rattle.read_location.specs.declared.Position.{Position}
+use Rattle.read_location.specs.declared.Location.{Location}
+use Rattle.read_location.specs.Records.{positionFor, muFor, locationFor}
+use Rattle.record_location.specs.Locations.{anyLocation, any-location}
+use Rattle.emit.specs.Texts.{markText, amountText, endText, placeText, noSpan, noEnd}
+use Rattle.emit.specs.Laws.{no-part, no-end}
+use Rattle.emit.specs.declared.Mark as Emit
+use Rattle.emit.specs.declared.Mark.the-variants.{Nothing, Byte}
+use Rattle.plan_location.specs.declared.EndPlan.{EndPlan}
+use Rattle.plan_location.specs.declared.EndPlan.the-variants as Ends
+use Rattle.plan_location.specs.declared.PlacePlan.{PlacePlan}
+use Rattle.plan_location.specs.declared.PlacePlan.the-variants as Places
+use Rattle.plan_location.specs.Plan.{held, heldOffset, offsetSign, offsetAmount, endPlan, unsignedPlan, basedPlan, unknownEnd, genomicPlan, residualPlan, positionPlan, samePosition, bracketMark, placePlan, planLocation}
+
+module _ (s : List ℕ) where
+  abbrev pub endPlanText : EndPlan → Option (List ℕ)
+  endPlanText Ends.NoText = none
+  endPlanText (Ends.Text e) = some (endText s e)
+
+  abbrev pub planText : PlacePlan → Option (List ℕ)
+  planText Places.NoText = none
+  planText (Places.Text p) = some (placeText s p)
+
+-- ---- offsets
+abbrev offsetText : Declared.Offset → List ℕ
+offsetText o = markText (offsetSign o) ++ amountText (offsetAmount o)
+
+-- the text of what canon gives, behind a text x
+offset-canon : (x : List ℕ) (o : Declared.Offset) → mapO (λ (t : Offset). x ++ printOffset t) (canonOffset o) ≡ cond (heldOffset o) (some (x ++ offsetText o)) none
+unfolding held signOf
+offset-canon x Absent = refl
+offset-canon x (By (pos v)) = go (fits Plain v) refl
+  where
+    go : (t : Bool) → fits Plain v ≡ t → mapO (λ (o : Offset). x ++ printOffset o) (canonOffset (By (pos v))) ≡ cond (heldOffset (By (pos v))) (some (x ++ offsetText (By (pos v)))) none
+    go true e = rw e
+    go false e = rw e
+offset-canon x (By (negsuc v)) = go (fits Minus (suc v)) refl
+  where
+    go : (t : Bool) → fits Minus (suc v) ≡ t → mapO (λ (o : Offset). x ++ printOffset o) (canonOffset (By (negsuc v))) ≡ cond (heldOffset (By (negsuc v))) (some (x ++ offsetText (By (negsuc v)))) none
+    go true e = rw e
+    go false e = rw e
+
+-- ---- positions: r is nothing where there is no residue
+module _ (s : List ℕ) where
+  end-text : (r : Span) (m : Emit.Mark) (z : ℤ) (o : Declared.Offset)
+      → endPlanText s (endPlan r m z o) ≡ cond (held z && heldOffset o) (some (part s r ++ (markText m ++ (dec (natAbs z) ++ offsetText o)))) none
+  unfolding endPlan endText
+  end-text r m z o = go (held z && heldOffset o) refl
+    where
+      go : (t : Bool) → held z && heldOffset o ≡ t → endPlanText s (endPlan r m z o) ≡ cond (held z && heldOffset o) (some (part s r ++ (markText m ++ (dec (natAbs z) ++ offsetText o)))) none
+      go true e = rw (e, endPlan)
+      go false e = rw (e, endPlan)
+
+  -- a mark, digits, an offset
+  based-text : (m : G.Mark) (e : Emit.Mark) → printMark m ≡ markText e → (sign : Sign) (z : ℤ) → held z ≡ fits sign (natAbs z) → (o : Declared.Offset)
+      → endPlanText s (endPlan noSpan e z o) ≡ mapO printBased (bothO (λ base offset. base offset) (mapO (marked m) (digitsOf sign (natAbs z))) (canonOffset o))
+  based-text m e p sign z h o = end-text noSpan e z o ∙ rw (no-part s, h, ← p) (go (fits sign (natAbs z)) refl)
+    where
+      joined : (c : Option Offset) → mapO printBased (mapO (marked m (dec (natAbs z))) c) ≡ mapO (λ (t : Offset). (printMark m ++ dec (natAbs z)) ++ printOffset t) c
+      joined none = refl
+      joined (some t) = ap some (sym (append-assoc (printMark m) (dec (natAbs z)) (printOffset t)))
+
+      go : (t : Bool) → fits sign (natAbs z) ≡ t
+          → cond (fits sign (natAbs z) && heldOffset o) (some (printMark m ++ (dec (natAbs z) ++ offsetText o))) none ≡ mapO printBased (bothO (λ base offset. base offset) (mapO (marked m) (digitsOf sign (natAbs z))) (canonOffset o))
+      go true q =
+          rw (q, joined (canonOffset o), offset-canon (printMark m ++ dec (natAbs z)) o, append-assoc (printMark m) (dec (natAbs z)) (offsetText o))
+      go false q = rw q
+
+  start-text : (z : ℤ) (o : Declared.Offset) → endPlanText s (basedPlan Start z o) ≡ mapO printBased (canonBased Start z o)
+  unfolding held signOf
+  start-text (pos v) o = based-text bare Nothing refl Plain (pos v) refl o
+  start-text (negsuc v) o = based-text minus (Byte (code "-")) refl Minus (negsuc v) refl o
+
+  from-text : (from : CdsFrom) (z : ℤ) (o : Declared.Offset) → endPlanText s (basedPlan from z o) ≡ mapO printBased (canonBased from z o)
+  unfolding held signOf
+  from-text Start z o = start-text z o
+  from-text End (pos v) o = based-text star (Byte (code "*")) refl Plain (pos v) refl o
+  from-text End (negsuc v) o = refl
+
+  -- an unsigned number behind a residue or nothing
+  unsigned-text : {A : Type 0} (tree : List ℕ → A) (print : A → List ℕ) (r : Span) → ((ds : List ℕ) → print (tree ds) ≡ part s r ++ ds)
+      → (z : ℤ) → endPlanText s (unsignedPlan r Nothing z Absent) ≡ mapO print (mapO tree (unsignedDigits z))
+  unfolding held signOf
+  unsigned-text tree print r p (negsuc v) = refl
+  unsigned-text tree print r p (pos v) = end-text r Nothing (pos v) Absent ∙ go (fits Plain v) refl
+    where
+      go : (t : Bool) → fits Plain v ≡ t → cond (fits Plain v && true) (some (part s r ++ (dec v ++ []))) none ≡ mapO print (mapO tree (unsignedDigits (pos v)))
+      go true q = rw (q, p (dec v), append-nil (dec v))
+      go false q = rw q
+
+  known-text : (z : ℤ) → endPlanText s (unsignedPlan noSpan Nothing z Absent) ≡ mapO printGenomic (canonGenomic (some z))
+  known-text = unsigned-text known printGenomic noSpan (λ ds. rw (no-part s))
+
+  unknown-text : endPlanText s (Ends.Text unknownEnd) ≡ some (ascii "?")
+  unfolding endText
+  unknown-text = rw (no-part s)
+
+  residual-text : (aa : Span) (z : ℤ) → endPlanText s (residualPlan s aa z) ≡ mapO (printPosition Prot) (canonPosition Prot (protPosV (part s aa) z))
+  residual-text aa z = go (isResidue (part s aa)) refl
+    where
+      go : (t : Bool) → isResidue (part s aa) ≡ t → endPlanText s (residualPlan s aa z) ≡ mapO (printPosition Prot) (canonPosition Prot (protPosV (part s aa) z))
+      go true e = rw e (unsigned-text (residual (part s aa)) printResidual aa (λ ds. refl) z)
+      go false e = rw e
+
+  genome-text : (t : Bool) (z : ℤ) → endPlanText s (genomicPlan t z) ≡ mapO printGenomic (canonPosition Genome (cond t Genomes.Unknown (Genomes.At z)))
+  genome-text true z = unknown-text
+  genome-text false z = known-text z
+
+  mt-text : (t : Bool) (z : ℤ) → endPlanText s (genomicPlan t z) ≡ mapO printGenomic (canonPosition Mt (cond t Mts.Unknown (Mts.At z)))
+  mt-text true z = unknown-text
+  mt-text false z = known-text z
+
+  pub position-text : (k : Kind) (p : Position) → endPlanText s (positionPlan s k p) ≡ mapO (printPosition k) (canonPosition k (positionContent s k (positionFor k p)))
+  position-text Cds p = from-text (p .«cds_from») (p .number) (p .offset)
+  position-text Genome p = genome-text (p .unknown) (p .number)
+  position-text Mt p = mt-text (p .unknown) (p .number)
+  position-text Tx p = from-text Start (p .number) (p .offset)
+  position-text Prot p = residual-text (p .aa) (p .number)
+  position-text Rna p = from-text Start (p .number) (p .offset)
+
+-- ---- locations: over whatever positions, with plans for both ends and what canon gives for them
+abbrev muOf : {A : Type 0} → Bool → A → Mu A
+muOf true a = certain a
+muOf false a = uncertain a
+
+module _ (s : List ℕ) {A : Type 0} (print : A → List ℕ) (isCertain : Bool) where
+  abbrev canonText : Option (Interval A) → Option (List ℕ)
+  canonText o = mapO (printMu (printInterval print)) (mapO (muOf isCertain) o)
+
+  one-text : (x : EndPlan) (o : Option A) → endPlanText s x ≡ mapO print o → planText s (placePlan isCertain x Nothing (Ends.Text noEnd)) ≡ canonText (mapO one o)
+  unfolding placeText
+  one-text Ends.NoText none e = refl
+  one-text Ends.NoText (some a) e = absurd (none-some e)
+  one-text (Ends.Text x) none e = absurd (none-some (sym e))
+  one-text (Ends.Text x) (some a) e = let j : endText s x ≡ print a = cc in rw (no-end s, j) (ap some (go isCertain))
+    where
+      go : (t : Bool) → markText (bracketMark t (code "(")) ++ (print a ++ markText (bracketMark t (code ")"))) ≡ printMu (printInterval print) (muOf t (one a))
+      go true = append-nil (print a)
+      go false = refl
+
+  two-text : (x y : EndPlan) (o u : Option A) → endPlanText s x ≡ mapO print o → endPlanText s y ≡ mapO print u
+      → planText s (placePlan isCertain x (Byte (code "_")) y) ≡ canonText (bothO two o u)
+  unfolding placeText
+  two-text Ends.NoText y none u e f = refl
+  two-text Ends.NoText y (some a) u e f = absurd (none-some e)
+  two-text (Ends.Text x) y none u e f = absurd (none-some (sym e))
+  two-text (Ends.Text x) Ends.NoText (some a) none e f = refl
+  two-text (Ends.Text x) Ends.NoText (some a) (some b) e f = absurd (none-some f)
+  two-text (Ends.Text x) (Ends.Text y) (some a) none e f = absurd (none-some (sym f))
+  two-text (Ends.Text x) (Ends.Text y) (some a) (some b) e f =
+      let i : endText s x ≡ print a = cc in
+      let j : endText s y ≡ print b = cc in
+      rw (i, j) (ap some (go isCertain))
+    where
+      go : (t : Bool) → markText (bracketMark t (code "(")) ++ (print a ++ (code "_" ∷ (print b ++ markText (bracketMark t (code ")"))))) ≡ printMu (printInterval print) (muOf t (two a b))
+      go true = rw (append-nil (print b))
+      go false = ap (λ (x : List ℕ). code "(" ∷ x) (sym (append-assoc (print a) (ascii "_" ++ print b) (ascii ")")))
+
+  ends-text : (isOne : Bool) (x y : EndPlan) (o u : Option A) → endPlanText s x ≡ mapO print o → endPlanText s y ≡ mapO print u
+      → planText s (cond isOne (placePlan isCertain x Nothing (Ends.Text noEnd)) (placePlan isCertain x (Byte (code "_")) y)) ≡ canonText (cond isOne (mapO one o) (bothO two o u))
+  ends-text true x y o u e f = one-text x o e
+  ends-text false x y o u e f = two-text x y o u e f
+
+module _ (s : List ℕ) where
+  location-content : (k : Kind) (t : Bool) (a b : PositionR k) → locationContent s k (muFor k t a b) ≡ muOf t (both (positionContent s k a) (positionContent s k b))
+  location-content Cds true a b = refl
+  location-content Cds false a b = refl
+  location-content Genome true a b = refl
+  location-content Genome false a b = refl
+  location-content Mt true a b = refl
+  location-content Mt false a b = refl
+  location-content Tx true a b = refl
+  location-content Tx false a b = refl
+  location-content Prot true a b = refl
+  location-content Prot false a b = refl
+  location-content Rna true a b = refl
+  location-content Rna false a b = refl
+
+  location-canon : (k : Kind) (t : Bool) (v w : PositionV k)
+      → locationCanon k .canon (muOf t (both v w)) ≡ mapO (muOf t) (cond (eqPosition k v w) (mapO one (canonPosition k v)) (bothO two (canonPosition k v) (canonPosition k w)))
+  location-canon k true v w = refl
+  location-canon k false v w = refl
+
+  -- what is planned is the canonical text
+  pub planned : (k : Kind) (l : Location) → planText s (planLocation s k l) ≡ mapO (printLocation k) (locationCanon k .canon (locationContent s k (locationFor k l)))
+  unfolding planLocation samePosition
+  planned k l =
+      let v = positionContent s k (positionFor k (l .start)) in
+      let w = positionContent s k (positionFor k (l .end)) in
+      rw (location-content k (l .certain) (positionFor k (l .start)) (positionFor k (l .end)), location-canon k (l .certain) v w)
+      (ends-text s (printPosition k) (l .certain) (eqPosition k v w) (positionPlan s k (l .start)) (positionPlan s k (l .end)) (canonPosition k v) (canonPosition k w) (position-text s k (l .start)) (position-text s k (l .end)))
+
+  -- and of a record's location
+  pub planned-record : (k : Kind) (l : MuIntervalR k) → planText s (planLocation s k (anyLocation k l)) ≡ mapO (printLocation k) (locationCanon k .canon (locationContent s k l))
+  planned-record k l = planned k (anyLocation k l) ∙ rw (any-location k l)

@@ -1,0 +1,68 @@
+use mathlib.Core.Path.{sym, _∙_}
+use Rattle.plan_na_edit.specs.Plan.{planChange}
+use borrow.Author.Needs.{needs}
+use Rattle.plan_na_edit.proofs.plan_change.Statement.{statement}
+use Rattle.plan_na_edit.proofs.plan_change.Tie as tie
+
+same-parts-requires : tie.Need-same-parts-requires
+same-parts-requires c κs = search needs
+
+no-span-requires : tie.Need-no-span-requires
+no-span-requires c κs = search needs
+
+letters-row-requires : tie.Need-letters-row-requires
+letters-row-requires c κs = search needs
+
+returns : tie.Need-returns
+unfolding planChange
+returns c =
+    let t = c .before .before in
+    rw (sym (t .before .same-parts .ensures) ∙ t .if1 .taken, c .letters-row .ensures, c .before .no-span .ensures)
+
+ones-parts-requires : tie.Need-ones-parts-requires
+ones-parts-requires c κs = search needs
+
+letters-row-requires-2 : tie.Need-letters-row-requires-2
+letters-row-requires-2 c κs = search needs
+
+returns-2 : tie.Need-returns-2
+unfolding planChange
+returns-2 c =
+    let t = c .before in
+    let e = t .before .before in
+    rw (sym (e .before .same-parts .ensures) ∙ e .if1 .left, sym (t .before .ones-parts .ensures) ∙ t .if2 .taken, c .letters-row2 .ensures)
+
+is-some-requires : tie.Need-is-some-requires
+is-some-requires c κs = search needs
+
+del-ins-row-requires : tie.Need-del-ins-row-requires
+del-ins-row-requires c κs = search needs
+
+row-if-requires : tie.Need-row-if-requires
+row-if-requires c κs = search needs
+
+returns-3 : tie.Need-returns-3
+unfolding planChange
+returns-3 c =
+    let d = c .before in
+    let i = d .before in
+    let t = i .before in
+    let e = t .before .before in
+    rw (sym (e .before .same-parts .ensures) ∙ e .if1 .left, sym (t .before .ones-parts .ensures) ∙ t .if2 .left)
+    (c .row-if .ensures ∙ rw (i .is-some .ensures, d .del-ins-row .ensures))
+
+pub plan-change-spec : {M : Type 1} → statement M
+plan-change-spec =
+    tie.close
+    (tie.spec
+    same-parts-requires
+    no-span-requires
+    letters-row-requires
+    returns
+    ones-parts-requires
+    letters-row-requires-2
+    returns-2
+    is-some-requires
+    del-ins-row-requires
+    row-if-requires
+    returns-3)

@@ -1,0 +1,39 @@
+use mathlib.Core.Path.{_∙_}
+use mir.Facts.{toZ-ofZ}
+use borrow.Author.Needs.{needs}
+use Rattle.plan_na_edit.proofs.plan_count.Statement.{statement}
+use Rattle.plan_na_edit.proofs.plan_count.Tie as tie
+
+is-unsigned-requires : tie.Need-is-unsigned-requires
+is-unsigned-requires c κs = search needs
+
+magnitude-requires : tie.Need-magnitude-requires
+magnitude-requires c κs = search needs
+
+no-span-requires : tie.Need-no-span-requires
+no-span-requires c κs = search needs
+
+count-row-requires : tie.Need-count-row-requires
+count-row-requires c κs = search needs
+
+row-if-requires : tie.Need-row-if-requires
+row-if-requires c κs = search needs
+
+returns : tie.Need-returns
+returns c =
+    let k = c .before in
+    let z = k .before in
+    let m = z .before in
+    let u = m .before in
+    c .row-if .ensures ∙ rw (k .count-row .ensures, z .no-span .ensures, m .magnitude .ensures, u .is-unsigned .ensures, toZ-ofZ (u .before .fits .n))
+
+pub plan-count-spec : {M : Type 1} → statement M
+plan-count-spec =
+    tie.close
+    (tie.spec
+    is-unsigned-requires
+    magnitude-requires
+    no-span-requires
+    count-row-requires
+    row-if-requires
+    returns)

@@ -1,0 +1,114 @@
+-- The text of a planned row is that of the edit's canonical tree, and the text without the reference is the one promised.
+use Prim.Native.Nat.{ℕ}
+use mathlib.Core.Path.{_≡_, refl, ap, _∙_}
+use mathlib.Core.List.{List, _∷_, _++_, append-nil}
+use mathlib.Core.Option.{none, some}
+use mathlib.Core.Bool.{Bool, true, false, cond, _&&_}
+use lib.Dec.{eqb, leb}
+use lib.IntN.{ℤ, pos, negsuc, natAbs}
+use lib.ListN.{length, getD}
+use borrow.Author.Tests.{eqb-true}
+use Rattle.texts.specs.Ascii.{ascii}
+use Rattle.texts.specs.Tests.{and-true}
+use Rattle.number.specs.Digits.{dec}
+use Rattle.alphabet.specs.Letters.{nucleotide}
+use Rattle.record.specs.declared.spans.Span.{Span}
+use Rattle.record.specs.declared.edits.NaEdit.{NaEdit}
+use Rattle.record.specs.declared.edits.NaEdit.the-variants as Na
+use Rattle.grammar.specs.Spans.{part}
+use Rattle.grammar.specs.Contents.{naEditContent}
+use Rattle.grammar.specs.NucleotideEdits as Tree
+use Rattle.grammar.specs.NucleotideEdits.{NaEdit.equal, NaEdit.swap, NaEdit.delIns, NaEdit.delNumIns, NaEdit.delNum, NaEdit.del, NaEdit.ins, NaEdit.dup, NaEdit.invNum, NaEdit.inv, printNaEdit}
+use Rattle.lang.specs.Canon.{mapO}
+use Rattle.na_edits.specs.Canon.{canonRefAlt, counted, canonNaEdit}
+use Rattle.na_edits.specs.Canonical.{one-is}
+use Rattle.promise.specs.NoRef.{noRefEdit}
+use Rattle.emit.specs.declared.Word.{Word}
+use Rattle.emit.specs.declared.Word.the-variants.{Empty, Del, Ins, DelIns, Dup, Inv, Equal, Greater}
+use Rattle.emit.specs.Words.{wordText}
+use Rattle.emit.specs.Texts.{noSpan, rowText}
+use Rattle.emit.specs.Laws.{no-part}
+use Rattle.rows.specs.Rows.{planText, lettersRow, isUnsigned}
+use Rattle.rows.specs.Laws.{letters-text, word-text, word-alone, either, row-text, row-if}
+use Rattle.plan_na_edit.specs.Plan.{delInsRow, countRow, isSeq, isSeq1, sameParts, onesParts, planChange, planRefAlt, planNumAlt, planCount, planNaEdit, noRefAlt, noRefRow}
+
+-- ---- the texts of the rows
+counted-is : (f : List ℕ → Tree.NaEdit) (n : ℤ) → counted f n ≡ cond (isUnsigned n) (some (f (dec (natAbs n)))) none
+counted-is f (pos v) = refl
+counted-is f (negsuc v) = refl
+
+module _ (s : List ℕ) where
+  count-text : (word : Word) (v : ℕ) (joint : Word) (q : Span) → rowText s (countRow word v joint q) ≡ wordText word ++ (dec v ++ (wordText joint ++ part s q))
+  unfolding rowText
+  count-text word v joint q = rw (no-part s)
+
+  change-text : (p q : Span) → rowText s (delInsRow p q) ≡ ascii "del" ++ (part s p ++ (ascii "ins" ++ part s q))
+  unfolding rowText
+  change-text p q = rw (no-part s)
+
+  equal-text : (p : Span) → rowText s (lettersRow p Equal noSpan) ≡ part s p ++ ascii "="
+  equal-text p = letters-text s p Equal noSpan ∙ rw (no-part s)
+
+  swap-text : (p q : Span) → onesParts s p q ≡ true → rowText s (lettersRow p Greater q) ≡ printNaEdit (swap (getD (part s p) 0 0) (getD (part s q) 0 0))
+  swap-text p q h =
+      let l = and-true (eqb (length (part s p)) 1) (eqb (length (part s q)) 1) h in
+      let a = one-is (part s p) (eqb-true _ _ (l .0)) in
+      let b = one-is (part s q) (eqb-true _ _ (l .1)) in
+      letters-text s p Greater q ∙ ap (λ (x : List ℕ). x ++ (ascii ">" ++ part s q)) a ∙ ap (λ (y : List ℕ). getD (part s p) 0 0 ∷ (ascii ">" ++ y)) b
+
+  -- ---- the plans
+  change-planned : (p q : Span) → planText s (planChange s p q) ≡ mapO printNaEdit (canonRefAlt (part s p) (part s q))
+  unfolding planChange
+  change-planned p q =
+      either s printNaEdit (sameParts s p q) _ _ _ _
+      (λ h. row-text s printNaEdit _ (equal (part s p)) (equal-text p))
+      (λ h. either s printNaEdit (onesParts s p q) _ _ _ _
+      (λ k. row-text s printNaEdit _ (swap (getD (part s p) 0 0) (getD (part s q) 0 0)) (swap-text p q k))
+      (λ k. row-if s printNaEdit (leb 1 (length (part s q))) _ (delIns (part s p) (part s q)) (change-text p q)))
+
+  count-planned : (word : Word) (f : List ℕ → Tree.NaEdit) (n : ℤ) → ((ds : List ℕ) → printNaEdit (f ds) ≡ wordText word ++ ds) → planText s (planCount word n) ≡ mapO printNaEdit (counted f n)
+  count-planned word f n h =
+      rw (counted-is f n)
+      (row-if s printNaEdit (isUnsigned n) _ (f (dec (natAbs n))) (count-text word (natAbs n) Empty noSpan ∙ rw (no-part s, append-nil (dec (natAbs n)), h (dec (natAbs n)))))
+
+  num-alt-planned : (n : ℤ) (q : Span) → planText s (planNumAlt s n q) ≡ mapO printNaEdit (canonNaEdit nucleotide (naEditContent s (Na.NumAlt n q)))
+  unfolding planNumAlt
+  num-alt-planned n q =
+      rw (counted-is (λ ds. delNumIns ds (part s q)) n)
+      (either s printNaEdit (isSeq1 s q) _ _ _ _
+      (λ h. row-if s printNaEdit (isUnsigned n) _ (delNumIns (dec (natAbs n)) (part s q)) (count-text Del (natAbs n) Ins q))
+      (λ h. refl))
+
+  ref-alt-planned : (p q : Span) → planText s (planRefAlt s p q) ≡ mapO printNaEdit (canonNaEdit nucleotide (naEditContent s (Na.RefAlt p q)))
+  unfolding planRefAlt
+  ref-alt-planned p q = either s printNaEdit (isSeq s p && isSeq s q) _ _ _ _ (λ h. change-planned p q) (λ h. refl)
+
+  pub planned : (e : NaEdit) → planText s (planNaEdit s e) ≡ mapO printNaEdit (canonNaEdit nucleotide (naEditContent s e))
+  planned (Na.RefAlt p q) = ref-alt-planned p q
+  planned (Na.NumAlt n q) = num-alt-planned n q
+  planned (Na.DelRef p) = row-if s printNaEdit (isSeq s p) _ (del (part s p)) (word-text s Del p)
+  planned (Na.DelNum n) = count-planned Del delNum n (λ ds. refl)
+  planned (Na.Ins q) = row-if s printNaEdit (isSeq1 s q) _ (ins (part s q)) (word-text s Ins q)
+  planned (Na.Dup p) = row-if s printNaEdit (isSeq s p) _ (dup (part s p)) (word-text s Dup p)
+  planned (Na.InvRef p) = row-if s printNaEdit (isSeq s p) _ (inv (part s p)) (word-text s Inv p)
+  planned (Na.InvNum n) = count-planned Inv invNum n (λ ds. refl)
+
+  -- ---- without the reference
+  no-ref-alt : (p q : Span) → rowText s (noRefAlt s p q) ≡ noRefEdit (naEditContent s (Na.RefAlt p q))
+  unfolding noRefAlt
+  no-ref-alt p q = go (sameParts s p q) (onesParts s p q) refl refl
+    where
+      go : (t u : Bool) → sameParts s p q ≡ t → onesParts s p q ≡ u → rowText s (noRefAlt s p q) ≡ noRefEdit (naEditContent s (Na.RefAlt p q))
+      go true u e f = rw (e, noRefAlt) (word-alone s Equal)
+      go false true e f = rw (e, f, noRefAlt) (letters-text s p Greater q)
+      go false false e f = rw (e, f, noRefAlt) (word-text s DelIns q)
+
+  pub no-ref-text : (e : NaEdit) → rowText s (noRefRow s e) ≡ noRefEdit (naEditContent s e)
+  no-ref-text (Na.RefAlt p q) = no-ref-alt p q
+  no-ref-text (Na.NumAlt n q) = word-text s DelIns q
+  no-ref-text (Na.DelRef p) = word-alone s Del
+  no-ref-text (Na.DelNum n) = word-alone s Del
+  no-ref-text (Na.Ins q) = word-text s Ins q
+  no-ref-text (Na.Dup p) = word-alone s Dup
+  no-ref-text (Na.InvRef p) = word-alone s Inv
+  no-ref-text (Na.InvNum n) = word-alone s Inv

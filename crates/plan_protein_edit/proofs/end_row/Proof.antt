@@ -1,0 +1,36 @@
+use borrow.Author.Needs.{needs}
+use Rattle.plan_protein_edit.proofs.end_row.Statement.{statement}
+use Rattle.plan_protein_edit.proofs.end_row.Tie as tie
+
+span-of-requires : tie.Need-span-of-requires
+span-of-requires c κs = search needs
+
+span-of-requires-2 : tie.Need-span-of-requires-2
+span-of-requires-2 c κs = search needs
+
+amount-of-requires : tie.Need-amount-of-requires
+amount-of-requires c κs = search needs
+
+joint-of-requires : tie.Need-joint-of-requires
+joint-of-requires c κs = search needs
+
+no-span-requires : tie.Need-no-span-requires
+no-span-requires c κs = search needs
+
+returns : tie.Need-returns
+returns c =
+    let j = c .before in
+    let a = j .before in
+    let t = a .before in
+    rw (c .no-span .ensures, j .joint-of .ensures, a .amount-of .ensures, t .span-of2 .ensures, t .before .span-of .ensures)
+
+pub end-row-spec : {M : Type 1} → statement M
+end-row-spec =
+    tie.close
+    (tie.spec
+    span-of-requires
+    span-of-requires-2
+    amount-of-requires
+    joint-of-requires
+    no-span-requires
+    returns)

@@ -1,0 +1,41 @@
+use mathlib.Core.Path.{sym, _∙_}
+use borrow.Author.Tests.{not-true, not-false}
+use Rattle.plan_protein_edit.specs.Plan.{planFs}
+use borrow.Author.Needs.{needs}
+use Rattle.plan_protein_edit.proofs.plan_fs.Statement.{statement}
+use Rattle.plan_protein_edit.proofs.plan_fs.Tie as tie
+
+is-optional-requires : tie.Need-is-optional-requires
+is-optional-requires c κs = search needs
+
+returns : tie.Need-returns
+unfolding planFs
+returns c = rw (sym (c .before .is-optional .ensures) ∙ not-true _ (c .if1 .taken))
+
+is-stop-requires : tie.Need-is-stop-requires
+is-stop-requires c κs = search needs
+
+end-row-requires : tie.Need-end-row-requires
+end-row-requires c κs = search needs
+
+row-if-requires : tie.Need-row-if-requires
+row-if-requires c κs = search needs
+
+returns-2 : tie.Need-returns-2
+unfolding planFs
+returns-2 c =
+    let x = c .before in
+    let e = x .before .before in
+    rw (sym (e .before .is-optional .ensures) ∙ not-false _ (e .if1 .left))
+    (c .row-if .ensures ∙ rw (x .before .is-stop .ensures, x .end-row .ensures))
+
+pub plan-fs-spec : {M : Type 1} → statement M
+plan-fs-spec =
+    tie.close
+    (tie.spec
+    is-optional-requires
+    returns
+    is-stop-requires
+    end-row-requires
+    row-if-requires
+    returns-2)

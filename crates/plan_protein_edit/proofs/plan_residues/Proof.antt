@@ -1,0 +1,26 @@
+use mathlib.Core.Path.{_∙_}
+use borrow.Author.Needs.{needs}
+use Rattle.plan_protein_edit.proofs.plan_residues.Statement.{statement}
+use Rattle.plan_protein_edit.proofs.plan_residues.Tie as tie
+
+part-of-requires : tie.Need-part-of-requires
+part-of-requires c κs = search needs
+
+is-residues-requires : tie.Need-is-residues-requires
+is-residues-requires c κs = search needs
+
+word-row-requires : tie.Need-word-row-requires
+word-row-requires c κs = search needs
+
+row-if-requires : tie.Need-row-if-requires
+row-if-requires c κs = search needs
+
+returns : tie.Need-returns
+returns c =
+    let w = c .before in
+    c .row-if .ensures ∙ rw (w .before .is-residues .ensures, w .before .before .part-of .ensures .bytes, w .word-row .ensures)
+
+pub plan-residues-spec : {M : Type 1} → statement M
+plan-residues-spec =
+    tie.close
+    (tie.spec part-of-requires is-residues-requires word-row-requires row-if-requires returns)

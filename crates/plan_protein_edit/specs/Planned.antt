@@ -1,0 +1,199 @@
+-- The text of a planned row is that of the edit's canonical tree.
+use Prim.Native.Nat.{ℕ, zero, suc}
+use Prim.Native.Char.{code}
+use mathlib.Core.Path.{_≡_, refl, sym, ap, _∙_}
+use mathlib.Core.List.{List, [], _++_, append-nil}
+use mathlib.Core.Option.{Option, none, some}
+use mathlib.Core.Bool.{Bool, true, false, cond, _&&_, _||_}
+use lib.IntN.{ℤ, pos, negsuc, natAbs}
+use Rattle.texts.specs.Ascii.{ascii}
+use Rattle.texts.specs.Words.{same, same-true}
+use Rattle.number.specs.Digits.{dec}
+use Rattle.number.specs.Written.{unsignedDigits, negatedDigits}
+use Rattle.residue.specs.Residues.{isResidue, isResidues}
+use Rattle.record.specs.declared.spans.Span.{Span}
+use Rattle.record.specs.declared.spans.Part.{Part}
+use Rattle.record.specs.declared.spans.Part.the-variants as Pa
+use Rattle.record.specs.declared.edits.UncertainLengthChange.{UncertainLengthChange}
+use Rattle.record.specs.declared.edits.UncertainLengthChange.the-variants.{None, Unknown, Known}
+use Rattle.record.specs.declared.edits.ProteinEdit.{ProteinEdit}
+use Rattle.record.specs.declared.edits.ProteinEdit.the-variants as Pr
+use Rattle.grammar.specs.Spans.{part, optionalPart}
+use Rattle.grammar.specs.Contents.{proteinEditContent}
+use Rattle.grammar.specs.Optional.{printOptional}
+use Rattle.grammar.specs.ProteinEdits.{Terminal, Terminal.ter, Terminal.x, Terminal.star, Length, Length.counted, Length.unknown, Length.unsaid, Stop.stop, ExtEnd, ExtEnd.nothing, ExtEnd.later, ExtEnd.earlier, ProteinEdit.subst, ProteinEdit.substUnknown, ProteinEdit.equal, ProteinEdit.del, ProteinEdit.dup, ProteinEdit.ins, ProteinEdit.delIns, ProteinEdit.fs, ProteinEdit.ext, printTerminal, printLength, printStop, printFsEnd, printExtEnd, printProteinEdit}
+use Rattle.grammar.specs.Values.{ProteinEditV.substV}
+use Rattle.lang.specs.Canon.{mapO, bothO}
+use Rattle.protein_edits.specs.Canon.{canonTerminal, canonLength, canonStop, canonFsEnd, canonEarlier, canonExtEnd, canonProteinEdit}
+use Rattle.protein_edits.specs.Parse.{orNext}
+use Rattle.emit.specs.declared.Word.{Word}
+use Rattle.emit.specs.declared.Word.the-variants.{Empty, Del, Ins, DelIns, Dup, Fs, Ext, Equal}
+use Rattle.emit.specs.declared.Mark.{Mark}
+use Rattle.emit.specs.declared.Mark.the-variants.{Nothing, Byte}
+use Rattle.emit.specs.declared.Row.{Row}
+use Rattle.emit.specs.Words.{wordText}
+use Rattle.emit.specs.Texts.{noSpan, markText, amountText, rowText}
+use Rattle.emit.specs.Laws.{no-part}
+use Rattle.rows.specs.Rows.{planText, rowIf, lettersRow, isUnsigned}
+use Rattle.rows.specs.declared.RowPlan.the-variants.{Text}
+use Rattle.rows.specs.Laws.{letters-text, word-text, word-alone, either, row-text, row-if, unsigned-digits}
+use Rattle.plan_protein_edit.specs.Plan.{spanOf, amountOf, jointOf, endRow, isNegated, isLength, isTerminal, isOptionalPart, isStop, isEarlier, planFs, planExt, isSubst, planSubst, planProteinEdit}
+
+-- where a test holds, a tree is found that prints as the text; else none
+data Found {A : Type 0} (print : A → List ℕ) (text : List ℕ) : Bool → Option A → Type 0 where
+  yes : (a : A) → print a ≡ text → Found print text true (some a)
+  no : Found print text false none
+
+found-if : {A : Type 0} (print : A → List ℕ) (b : Bool) (a : A) → Found print (print a) b (cond b (some a) none)
+found-if print true a = yes a refl
+found-if print false a = no
+
+-- a larger tree, whose text has that of its part in it
+module _ {A B : Type 0} (inner : A → List ℕ) (outer : B → List ℕ) (make : A → B) (around : List ℕ → List ℕ) (h : (a : A) → outer (make a) ≡ around (inner a)) where
+  found-map : {text : List ℕ} {b : Bool} {o : Option A} → Found inner text b o → Found outer (around text) b (mapO make o)
+  found-map (yes a e) = yes (make a) (h a ∙ ap around e)
+  found-map no = no
+
+map-next : {A B : Type 0} (f : A → B) (o u : Option A) → mapO f (orNext o u) ≡ orNext (mapO f o) (mapO f u)
+map-next f none u = refl
+map-next f (some a) u = refl
+
+-- ---- terminals and lengths
+terminal-found : (w : List ℕ) → Found printTerminal w (isTerminal w) (canonTerminal w)
+unfolding isTerminal canonTerminal
+terminal-found w = go (same w (ascii "Ter")) (same w (ascii "X")) (same w (ascii "*")) refl refl refl
+  where
+    go : (a b c : Bool) → same w (ascii "Ter") ≡ a → same w (ascii "X") ≡ b → same w (ascii "*") ≡ c → Found printTerminal w (isTerminal w) (canonTerminal w)
+    go true b c e f g = rw (e, isTerminal, canonTerminal) (yes ter (sym (same-true w (ascii "Ter") e)))
+    go false true c e f g = rw (e, f, isTerminal, canonTerminal) (yes x (sym (same-true w (ascii "X") f)))
+    go false false true e f g = rw (e, f, g, isTerminal, canonTerminal) (yes star (sym (same-true w (ascii "*") g)))
+    go false false false e f g = rw (e, f, g, isTerminal, canonTerminal) no
+
+abbrev itself : List ℕ → List ℕ
+itself t = t
+
+unsigned-found : (z : ℤ) → Found itself (dec (natAbs z)) (isUnsigned z) (unsignedDigits z)
+unsigned-found z = rw (unsigned-digits z) (found-if itself (isUnsigned z) (dec (natAbs z)))
+
+negated-found : (z : ℤ) → Found itself (dec (natAbs z)) (isNegated z) (negatedDigits z)
+negated-found (pos zero) = yes (dec 0) refl
+negated-found (pos (suc v)) = no
+negated-found (negsuc v) = found-if itself (isNegated (negsuc v)) (dec (suc v))
+
+abbrev lengthText : UncertainLengthChange → List ℕ
+lengthText n = amountText (amountOf n) ++ wordText (jointOf n)
+
+length-found : (n : UncertainLengthChange) → Found printLength (lengthText n) (isLength n) (canonLength n)
+length-found None = yes unsaid refl
+length-found Unknown = yes unknown refl
+length-found (Known z) = rw (append-nil (dec (natAbs z))) (found-map itself printLength counted itself (λ ds. refl) (unsigned-found z))
+
+both-found : {w l : List ℕ} {b c : Bool} {o : Option Terminal} {u : Option Length} → Found printTerminal w b o → Found printLength l c u → Found printStop (w ++ l) (b && c) (bothO stop o u)
+both-found (yes t e) (yes n f) = yes (stop t n) cc
+both-found (yes t e) no = no
+both-found no f = no
+
+stop-found : (w : List ℕ) (n : UncertainLengthChange) → Found printStop (w ++ lengthText n) (isTerminal w && isLength n) (canonStop w n)
+stop-found w n = both-found (terminal-found w) (length-found n)
+
+-- the end of `ext` without `-`
+abbrev laterEnd : Option (List ℕ) → UncertainLengthChange → Option ExtEnd
+laterEnd none None = some nothing
+laterEnd none Unknown = none
+laterEnd none (Known z) = none
+laterEnd (some w) n = mapO later (canonStop w n)
+
+ext-end : (q : Option (List ℕ)) (n : UncertainLengthChange) → canonExtEnd q n ≡ orNext (laterEnd q n) (canonEarlier q n)
+ext-end none None = refl
+ext-end none Unknown = refl
+ext-end none (Known z) = refl
+ext-end (some w) n = refl
+
+subst-found : (a : List ℕ) → Found printProteinEdit a (isResidue a || same a (ascii "?")) (canonProteinEdit (substV a))
+subst-found a = go (isResidue a) (same a (ascii "?")) refl refl
+  where
+    go : (b c : Bool) → isResidue a ≡ b → same a (ascii "?") ≡ c → Found printProteinEdit a (isResidue a || same a (ascii "?")) (canonProteinEdit (substV a))
+    go true c e f = rw e (yes (subst a) refl)
+    go false true e f = rw (e, f) (yes substUnknown (sym (same-true a (ascii "?") f)))
+    go false false e f = rw (e, f) no
+
+module _ (s : List ℕ) where
+  -- ---- the ends of `fs` and `ext`
+  fs-found : (t : Part) (n : UncertainLengthChange) → Found printFsEnd (part s (spanOf t) ++ lengthText n) (isStop s t n) (canonFsEnd (optionalPart s t) n)
+  fs-found Pa.Absent None = yes none (rw (no-part s))
+  fs-found Pa.Absent Unknown = no
+  fs-found Pa.Absent (Known z) = no
+  fs-found (Pa.Present p) n = found-map printStop printFsEnd some itself (λ e. refl) (stop-found (part s p) n)
+
+  later-found : (t : Part) (n : UncertainLengthChange) → Found printExtEnd (part s (spanOf t) ++ lengthText n) (isStop s t n) (laterEnd (optionalPart s t) n)
+  later-found Pa.Absent None = yes nothing (rw (no-part s))
+  later-found Pa.Absent Unknown = no
+  later-found Pa.Absent (Known z) = no
+  later-found (Pa.Present p) n = found-map printStop printExtEnd later itself (λ e. refl) (stop-found (part s p) n)
+
+  optional-text : (r : Part) → printOptional [] (optionalPart s r) ≡ part s (spanOf r)
+  optional-text Pa.Absent = rw (no-part s)
+  optional-text (Pa.Present p) = refl
+
+  earlier-found : (t : Part) (n : UncertainLengthChange) → Found printExtEnd (part s (spanOf t) ++ (ascii "-" ++ lengthText n)) (isEarlier s t n) (canonEarlier (optionalPart s t) n)
+  earlier-found t None = no
+  earlier-found t Unknown = no
+  earlier-found t (Known z) = go (isOptionalPart s t) refl
+    where
+      digits : Found printExtEnd (part s (spanOf t) ++ (ascii "-" ++ lengthText (Known z))) (isNegated z) (mapO (earlier (optionalPart s t)) (negatedDigits z))
+      digits =
+          rw (append-nil (dec (natAbs z)), ← optional-text t)
+          (found-map itself printExtEnd (earlier (optionalPart s t)) (λ ds. printOptional [] (optionalPart s t) ++ (ascii "-" ++ ds)) (λ ds. refl) (negated-found z))
+
+      go : (b : Bool) → isOptionalPart s t ≡ b → Found printExtEnd (part s (spanOf t) ++ (ascii "-" ++ lengthText (Known z))) (isEarlier s t (Known z)) (canonEarlier (optionalPart s t) (Known z))
+      go true e = rw e digits
+      go false e = rw e no
+
+  -- ---- rows and plans
+  end-text : (r : Part) (word : Word) (t : Part) (sign : Mark) (n : UncertainLengthChange)
+      → rowText s (endRow r word t sign n) ≡ printOptional [] (optionalPart s r) ++ (wordText word ++ (part s (spanOf t) ++ (markText sign ++ lengthText n)))
+  unfolding rowText
+  end-text r word t sign n = rw (no-part s, append-nil (wordText (jointOf n)), optional-text r)
+
+  module _ {A : Type 0} (print : A → List ℕ) where
+    found-row : {text : List ℕ} {b : Bool} {o : Option A} (row : Row) → rowText s row ≡ text → Found print text b o → planText s (rowIf b row) ≡ mapO print o
+    found-row row e (yes a f) = ap some (e ∙ sym f)
+    found-row row e no = refl
+
+    next-row : {x y : List ℕ} {b c : Bool} {o u : Option A} (first second : Row) → rowText s first ≡ x → rowText s second ≡ y → Found print x b o → Found print y c u → planText s (cond b (Text first) (rowIf c second)) ≡ mapO print (orNext o u)
+    next-row first second e f (yes a g) h = ap some (e ∙ sym g)
+    next-row first second e f no h = found-row second f h
+
+  fs-planned : (r t : Part) (n : UncertainLengthChange) → planText s (planFs s r t n) ≡ mapO printProteinEdit (canonProteinEdit (proteinEditContent s (Pr.Fs r t n)))
+  unfolding planFs
+  fs-planned r t n =
+      either s printProteinEdit (isOptionalPart s r) _ _ _ _
+      (λ h. found-row printProteinEdit (endRow r Fs t Nothing n) (end-text r Fs t Nothing n)
+      (found-map printFsEnd printProteinEdit (fs (optionalPart s r)) (λ e. printOptional [] (optionalPart s r) ++ (ascii "fs" ++ e)) (λ e. refl) (fs-found t n)))
+      (λ h. refl)
+
+  ext-planned : (r t : Part) (n : UncertainLengthChange) → planText s (planExt s r t n) ≡ mapO printProteinEdit (canonProteinEdit (proteinEditContent s (Pr.Ext r t n)))
+  unfolding planExt
+  ext-planned r t n =
+      rw (ext-end (optionalPart s t) n, map-next (ext (optionalPart s r)) (laterEnd (optionalPart s t) n) (canonEarlier (optionalPart s t) n))
+      (either s printProteinEdit (isOptionalPart s r) _ _ _ _
+      (λ h. next-row printProteinEdit (endRow r Ext t Nothing n) (endRow r Ext t (Byte (code "-")) n) (end-text r Ext t Nothing n) (end-text r Ext t (Byte (code "-")) n) (behind (later-found t n)) (behind (earlier-found t n)))
+      (λ h. refl))
+    where
+      behind : {text : List ℕ} {b : Bool} {o : Option ExtEnd} → Found printExtEnd text b o → Found printProteinEdit (printOptional [] (optionalPart s r) ++ (ascii "ext" ++ text)) b (mapO (ext (optionalPart s r)) o)
+      behind = found-map printExtEnd printProteinEdit (ext (optionalPart s r)) (λ e. printOptional [] (optionalPart s r) ++ (ascii "ext" ++ e)) (λ e. refl)
+
+  subst-planned : (p : Span) → planText s (planSubst s p) ≡ mapO printProteinEdit (canonProteinEdit (substV (part s p)))
+  unfolding isSubst
+  subst-planned p =
+      found-row printProteinEdit (lettersRow p Empty noSpan) (letters-text s p Empty noSpan ∙ rw (no-part s, append-nil (part s p))) (subst-found (part s p))
+
+  pub planned : (e : ProteinEdit) → planText s (planProteinEdit s e) ≡ mapO printProteinEdit (canonProteinEdit (proteinEditContent s e))
+  planned (Pr.Fs r t n) = fs-planned r t n
+  planned (Pr.Ext r t n) = ext-planned r t n
+  planned (Pr.Subst p) = subst-planned p
+  planned (Pr.DelIns p) = row-if s printProteinEdit (isResidues (part s p)) _ (delIns (part s p)) (word-text s DelIns p)
+  planned (Pr.Ins p) = row-if s printProteinEdit (isResidues (part s p)) _ (ins (part s p)) (word-text s Ins p)
+  planned Pr.Del = row-text s printProteinEdit _ del (word-alone s Del)
+  planned Pr.Dup = row-text s printProteinEdit _ dup (word-alone s Dup)
+  planned Pr.Ident = row-text s printProteinEdit _ equal (word-alone s Equal)

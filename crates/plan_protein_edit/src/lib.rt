@@ -1,0 +1,221 @@
+// Which text is to be written for a protein edit: a row of the engine's, or none.
+use emit::Amount;
+use emit::Mark;
+use emit::Row;
+use emit::Word;
+use record::edits::ProteinEdit;
+use record::edits::UncertainLengthChange;
+use record::spans::Part;
+use record::spans::Span;
+use rows::RowPlan;
+ghost use mathlib.Core.Path.{_≡_};
+ghost use Rattle.plan_protein_edit.specs.Plan.{spanOf, amountOf, jointOf, endRow, isNegated, isLength, isNone, isTerminal, isOptionalPart, isTerminalWith, isStop, isEarlier, planFs, planExt, isSubst, planSubst, planResidues, planProteinEdit};
+
+// ---- what stands in the row
+
+fn span_of(p: Part) -> Span
+    ensures { λ r. ⌜ r ≡ spanOf p ⌝ }
+{
+    match p {
+        Part::Absent => rows::no_span(),
+        Part::Present(p) => p,
+    }
+}
+
+// A length: its digits, or `?`, or nothing.
+fn amount_of(n: UncertainLengthChange) -> Amount
+    ensures { λ r. ⌜ r ≡ amountOf n ⌝ }
+{
+    match n {
+        UncertainLengthChange::None => Amount::Absent,
+        UncertainLengthChange::Unknown => Amount::Absent,
+        UncertainLengthChange::Known(z) => Amount::Count(number::magnitude(z)),
+    }
+}
+
+fn joint_of(n: UncertainLengthChange) -> Word
+    ensures { λ r. ⌜ r ≡ jointOf n ⌝ }
+{
+    match n {
+        UncertainLengthChange::None => Word::Empty,
+        UncertainLengthChange::Unknown => Word::Question,
+        UncertainLengthChange::Known(_) => Word::Empty,
+    }
+}
+
+fn end_row(residue: Part, word: Word, end: Part, sign: Mark, n: UncertainLengthChange) -> Row
+    ensures { λ r. ⌜ r ≡ endRow residue word end sign n ⌝ }
+{
+    Row {
+        first: span_of(residue),
+        word,
+        second: span_of(end),
+        sign,
+        amount: amount_of(n),
+        joint: joint_of(n),
+        last: rows::no_span(),
+    }
+}
+
+// ---- tests
+
+// The negative of unsigned digits may be this number.
+fn is_negated(n: i32) -> bool
+    ensures { λ r. ⌜ r ≡ isNegated n ⌝ }
+{
+    if n <= 0 {
+        return -2147483647 <= n;
+    }
+    false
+}
+
+fn is_length(n: UncertainLengthChange) -> bool
+    ensures { λ r. ⌜ r ≡ isLength n ⌝ }
+{
+    match n {
+        UncertainLengthChange::None => true,
+        UncertainLengthChange::Unknown => true,
+        UncertainLengthChange::Known(z) => rows::is_unsigned(z),
+    }
+}
+
+fn is_none(n: UncertainLengthChange) -> bool
+    ensures { λ r. ⌜ r ≡ isNone n ⌝ }
+{
+    match n {
+        UncertainLengthChange::None => true,
+        UncertainLengthChange::Unknown => false,
+        UncertainLengthChange::Known(_) => false,
+    }
+}
+
+fn is_terminal(w: &[u8]) -> bool
+    ensures { λ r. ⌜ r ≡ isTerminal (now (w .entry)) ⌝ }
+{
+    if rows::same_bytes(w, b"Ter") {
+        return true;
+    }
+    if rows::same_bytes(w, b"X") {
+        return true;
+    }
+    rows::same_bytes(w, b"*")
+}
+
+// A residue, or none.
+fn is_optional(source: &[u8], residue: Part) -> bool
+    ensures { λ r. ⌜ r ≡ isOptionalPart (now (source .entry)) residue ⌝ }
+{
+    match residue {
+        Part::Absent => true,
+        Part::Present(p) => residue::is_residue(parts::part_of(source, p)),
+    }
+}
+
+fn is_terminal_with(source: &[u8], p: Span, n: UncertainLengthChange) -> bool
+    ensures { λ r. ⌜ r ≡ isTerminalWith (now (source .entry)) p n ⌝ }
+{
+    if is_terminal(parts::part_of(source, p)) {
+        return is_length(n);
+    }
+    false
+}
+
+// A terminal with a length, or neither.
+fn is_stop(source: &[u8], end: Part, n: UncertainLengthChange) -> bool
+    ensures { λ r. ⌜ r ≡ isStop (now (source .entry)) end n ⌝ }
+{
+    match end {
+        Part::Absent => is_none(n),
+        Part::Present(p) => is_terminal_with(source, p, n),
+    }
+}
+
+// A residue or none, with `-` and a number.
+fn is_earlier(source: &[u8], end: Part, n: UncertainLengthChange) -> bool
+    ensures { λ r. ⌜ r ≡ isEarlier (now (source .entry)) end n ⌝ }
+{
+    match n {
+        UncertainLengthChange::None => false,
+        UncertainLengthChange::Unknown => false,
+        UncertainLengthChange::Known(z) => {
+            if is_optional(source, end) {
+                return is_negated(z);
+            }
+            false
+        }
+    }
+}
+
+// A residue, or `?`.
+fn is_subst(source: &[u8], p: Span) -> bool
+    ensures { λ r. ⌜ r ≡ isSubst (now (source .entry)) p ⌝ }
+{
+    let bytes = parts::part_of(source, p);
+    if residue::is_residue(bytes) {
+        return true;
+    }
+    rows::same_bytes(bytes, b"?")
+}
+
+// ---- plans
+
+fn plan_fs(source: &[u8], residue: Part, end: Part, n: UncertainLengthChange) -> RowPlan
+    ensures { λ r. ⌜ r ≡ planFs (now (source .entry)) residue end n ⌝ }
+{
+    if !is_optional(source, residue) {
+        return RowPlan::NoText;
+    }
+    rows::row_if(
+        is_stop(source, end, n),
+        end_row(residue, Word::Fs, end, Mark::Nothing, n),
+    )
+}
+
+fn plan_ext(source: &[u8], residue: Part, end: Part, n: UncertainLengthChange) -> RowPlan
+    ensures { λ r. ⌜ r ≡ planExt (now (source .entry)) residue end n ⌝ }
+{
+    if !is_optional(source, residue) {
+        return RowPlan::NoText;
+    }
+    if is_stop(source, end, n) {
+        return RowPlan::Text(end_row(residue, Word::Ext, end, Mark::Nothing, n));
+    }
+    rows::row_if(
+        is_earlier(source, end, n),
+        end_row(residue, Word::Ext, end, Mark::Byte(b'-'), n),
+    )
+}
+
+fn plan_subst(source: &[u8], p: Span) -> RowPlan
+    ensures { λ r. ⌜ r ≡ planSubst (now (source .entry)) p ⌝ }
+{
+    rows::row_if(
+        is_subst(source, p),
+        rows::letters_row(p, Word::Empty, rows::no_span()),
+    )
+}
+
+fn plan_residues(source: &[u8], word: Word, p: Span) -> RowPlan
+    ensures { λ r. ⌜ r ≡ planResidues (now (source .entry)) word p ⌝ }
+{
+    rows::row_if(
+        residue::is_residues(parts::part_of(source, p)),
+        rows::word_row(word, p),
+    )
+}
+
+// The row of the shortest text of an edit; none where no text reads as it.
+pub fn plan_protein_edit(source: &[u8], e: ProteinEdit) -> RowPlan
+    ensures { λ r. ⌜ r ≡ planProteinEdit (now (source .entry)) e ⌝ }
+{
+    match e {
+        ProteinEdit::Fs(residue, end, n) => plan_fs(source, residue, end, n),
+        ProteinEdit::Ext(residue, end, n) => plan_ext(source, residue, end, n),
+        ProteinEdit::Subst(p) => plan_subst(source, p),
+        ProteinEdit::DelIns(p) => plan_residues(source, Word::DelIns, p),
+        ProteinEdit::Ins(p) => plan_residues(source, Word::Ins, p),
+        ProteinEdit::Del => RowPlan::Text(rows::word_alone(Word::Del)),
+        ProteinEdit::Dup => RowPlan::Text(rows::word_alone(Word::Dup)),
+        ProteinEdit::Ident => RowPlan::Text(rows::word_alone(Word::Equal)),
+    }
+}

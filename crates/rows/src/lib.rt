@@ -1,0 +1,74 @@
+// What the planners of edits share: a row or no text, rows of letters, and the numbers that may be written.
+use emit::Amount;
+use emit::Mark;
+use emit::Row;
+use emit::Word;
+use record::spans::Span;
+ghost use mathlib.Core.Path.{_≡_};
+ghost use Rattle.texts.specs.Words.{same};
+ghost use Rattle.emit.specs.Texts.{noSpan};
+ghost use Rattle.rows.specs.Rows.{rowIf, lettersRow, wordRow, wordAlone, isUnsigned};
+
+// The row whose text is to be written, where there is one.
+pub enum RowPlan {
+    NoText,
+    Text(Row),
+}
+
+pub fn row_if(b: bool, row: Row) -> RowPlan
+    ensures { λ r. ⌜ r ≡ rowIf b row ⌝ }
+{
+    if b {
+        return RowPlan::Text(row);
+    }
+    RowPlan::NoText
+}
+
+pub fn no_span() -> Span
+    ensures { λ r. ⌜ r ≡ noSpan ⌝ }
+{
+    Span { start: 0, end: 0 }
+}
+
+// Letters, a word, letters.
+pub fn letters_row(first: Span, word: Word, second: Span) -> Row
+    ensures { λ r. ⌜ r ≡ lettersRow first word second ⌝ }
+{
+    Row {
+        first,
+        word,
+        second,
+        sign: Mark::Nothing,
+        amount: Amount::Absent,
+        joint: Word::Empty,
+        last: no_span(),
+    }
+}
+
+pub fn word_row(word: Word, p: Span) -> Row
+    ensures { λ r. ⌜ r ≡ wordRow word p ⌝ }
+{
+    letters_row(no_span(), word, p)
+}
+
+pub fn word_alone(word: Word) -> Row
+    ensures { λ r. ⌜ r ≡ wordAlone word ⌝ }
+{
+    word_row(word, no_span())
+}
+
+// Unsigned digits may be this number.
+pub fn is_unsigned(n: i32) -> bool
+    ensures { λ r. ⌜ r ≡ isUnsigned n ⌝ }
+{
+    0 <= n
+}
+
+pub fn same_bytes(a: &[u8], b: &[u8]) -> bool
+    ensures { λ r. ⌜ r ≡ same (now (a .entry)) (now (b .entry)) ⌝ }
+{
+    if a.len() != b.len() {
+        return false;
+    }
+    scan::begins(b, a)
+}
