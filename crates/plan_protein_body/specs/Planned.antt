@@ -8,7 +8,7 @@ use mathlib.Core.Bool.{Bool, true, false, cond, _&&_}
 use Rattle.texts.specs.Ascii.{ascii}
 use Rattle.texts.specs.Tests.{none-some, and-true}
 use Rattle.texts.specs.Words.{same, same-true}
-use Rattle.number.specs.Digits.{dec}
+use Rattle.number.specs.Digits.{decUpTo}
 use Rattle.record.specs.declared.spans.Span.{Span}
 use Rattle.record.specs.declared.variant.Kind.the-variants.{Prot}
 use Rattle.record.specs.declared.edits.ProteinEdit.{ProteinEdit}
@@ -146,7 +146,7 @@ module _ (s : List ℕ) where
   barred-met l t e = barred-is (l .certain) t (endsOf l) (proteinEditContent s e)
 
   met01-text : (aa : Span) → part s aa ≡ ascii "Met" → bareText (met01Place aa) ≡ printEnds Prot met01
-  unfolding endText
+  unfolding endText decUpTo
   met01-text aa e = rw (no-end s, e)
 
   met-residue : (l : Location) (isCertain : Bool) (e : ProteinEdit) → isBarred s l isCertain e ≡ true → part s (l .start .aa) ≡ ascii "Met"

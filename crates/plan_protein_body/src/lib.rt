@@ -18,16 +18,25 @@ use record::variant::ProtLocEdit;
 use rows::RowPlan;
 ghost use mathlib.Core.Path.{_≡_};
 ghost use mathlib.Core.Bool.{_||_, not};
+ghost use Rattle.texts.specs.Words.{same};
+ghost use Rattle.grammar.specs.Spans.{part};
 ghost use Rattle.emit.specs.Texts.{noEnd};
 ghost use Rattle.plan_protein_body.specs.Plan.{isMetOne, isUnknownEdit, isAlike, isBarred, placeAt, met01Place, bodyOf, togetherPlan, planOrdinary, planMuProtein, wordBody, planProteinBody};
 
 // ---- the Met-1 `?` record: its composed text would be `Met1?` or `(Met1?)`, which read as another
 
+// The part is this word.
+fn spells(source: &[u8], p: Span, word: &[u8]) -> bool
+    ensures { λ r. ⌜ r ≡ same (part (now (source .entry)) p) (now (word .entry)) ⌝ }
+{
+    rows::same_bytes(parts::part_of(source, p), word)
+}
+
 fn is_met_one(source: &[u8], p: Position) -> bool
     ensures { λ r. ⌜ r ≡ isMetOne (now (source .entry)) p ⌝ }
 {
     let aa = p.aa;
-    if rows::same_bytes(parts::part_of(source, aa), b"Met") {
+    if spells(source, aa, b"Met") {
         return plan_location::same_number(p.number, 1);
     }
     false
@@ -36,10 +45,16 @@ fn is_met_one(source: &[u8], p: Position) -> bool
 fn is_unknown(source: &[u8], e: ProteinEdit) -> bool
     ensures { λ r. ⌜ r ≡ isUnknownEdit (now (source .entry)) e ⌝ }
 {
-    let ProteinEdit::Subst(p) = e else {
-        return false;
-    };
-    rows::same_bytes(parts::part_of(source, p), b"?")
+    match e {
+        ProteinEdit::Fs(_, _, _) => false,
+        ProteinEdit::Ext(_, _, _) => false,
+        ProteinEdit::Subst(p) => spells(source, p, b"?"),
+        ProteinEdit::DelIns(_) => false,
+        ProteinEdit::Ins(_) => false,
+        ProteinEdit::Del => false,
+        ProteinEdit::Dup => false,
+        ProteinEdit::Ident => false,
+    }
 }
 
 // Both certain, or both uncertain.
