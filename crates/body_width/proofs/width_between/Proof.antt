@@ -1,5 +1,6 @@
 use native.Mathlib.Omega.{arith}
-use native.Mathlib.Numerals.{add-one}
+use mathlib.Core.Path.{ap}
+use mathlib.Core.Option.{some}
 use mir.Facts.{toZ-ofZ, sfits-widen}
 use Rattle.promise.specs.Width.{widthBetween}
 use Rattle.body_width.proofs.Apart.{Apart, machine-apart, gap-fits, gap-machine}
@@ -34,7 +35,7 @@ returns c =
     let f = c .before .fits .start in
     let g = c .before .fits .end in
     let p = apart c in
-    rw (gap-machine f g p, (rw (toZ-ofZ f, toZ-ofZ g) at (c .if1 .taken)), p .is, add-one)
+    rw (gap-machine f g p, rw (toZ-ofZ f, toZ-ofZ g) at (c .if1 .taken), p .is) (ap some (omega arith))
 
 returns-2 : tie.Need-returns-2
 unfolding widthBetween
