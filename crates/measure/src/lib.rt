@@ -14,7 +14,7 @@ pub fn width(source: &[u8], v: HgvsVariant) -> WidthAnswer
     if 4096 < source.len() {
         return WidthAnswer::TooLong;
     }
-    if !parts::spans_inside(source.len(), v) {
+    if !record_inside::spans_inside(source.len(), v) {
         return WidthAnswer::BadSpan;
     }
     let TextPlan::Text(_) = plan_text::plan_text(source, true, v) else {

@@ -1,9 +1,9 @@
 -- Brackets have no span.
 use Rattle.grammar.specs.Contents.{muNaEditInside}
-use Rattle.parts.proofs.Laws.{told}
+use Rattle.record_inside.proofs.Laws.{told}
 use borrow.Author.Needs.{needs}
-use Rattle.parts.proofs.mu_na_edit_inside.Statement.{statement}
-use Rattle.parts.proofs.mu_na_edit_inside.Tie as tie
+use Rattle.record_inside.proofs.mu_na_edit_inside.Statement.{statement}
+use Rattle.record_inside.proofs.mu_na_edit_inside.Tie as tie
 
 enum-known-edit : tie.Need-enum-known-edit
 enum-known-edit c = search needs

@@ -1,9 +1,9 @@
 -- Each kind has the spans of its edit, and p those of its location too.
 use Rattle.grammar.specs.Contents.{bodyInside}
-use Rattle.parts.proofs.Laws.{told}
+use Rattle.record_inside.proofs.Laws.{told}
 use borrow.Author.Needs.{needs}
-use Rattle.parts.proofs.body_inside.Statement.{statement}
-use Rattle.parts.proofs.body_inside.Tie as tie
+use Rattle.record_inside.proofs.body_inside.Statement.{statement}
+use Rattle.record_inside.proofs.body_inside.Tie as tie
 
 enum-known-body : tie.Need-enum-known-body
 enum-known-body c = search needs

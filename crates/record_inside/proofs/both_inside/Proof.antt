@@ -1,8 +1,8 @@
 -- The first test, and where it holds the second.
-use Rattle.parts.proofs.Laws.{both-fail, both-next}
+use Rattle.record_inside.proofs.Laws.{both-fail, both-next}
 use borrow.Author.Needs.{needs}
-use Rattle.parts.proofs.both_inside.Statement.{statement}
-use Rattle.parts.proofs.both_inside.Tie as tie
+use Rattle.record_inside.proofs.both_inside.Statement.{statement}
+use Rattle.record_inside.proofs.both_inside.Tie as tie
 
 inside-requires : tie.Need-inside-requires
 inside-requires c κs = search needs

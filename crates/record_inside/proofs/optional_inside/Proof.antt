@@ -1,9 +1,9 @@
 -- A part that is there has a span.
 use Rattle.grammar.specs.Spans.{insideOptional}
-use Rattle.parts.proofs.Laws.{told}
+use Rattle.record_inside.proofs.Laws.{told}
 use borrow.Author.Needs.{needs}
-use Rattle.parts.proofs.optional_inside.Statement.{statement}
-use Rattle.parts.proofs.optional_inside.Tie as tie
+use Rattle.record_inside.proofs.optional_inside.Statement.{statement}
+use Rattle.record_inside.proofs.optional_inside.Tie as tie
 
 enum-told : tie.Need-enum-told
 enum-told c = search needs

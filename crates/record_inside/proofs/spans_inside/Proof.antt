@@ -1,10 +1,10 @@
 -- The accession, the gene, and the body.
 use mathlib.Core.Path.{refl}
 use borrow.Author.Tests.{not-true, not-false}
-use Rattle.parts.proofs.Laws.{both-fail, both-next}
+use Rattle.record_inside.proofs.Laws.{both-fail, both-next}
 use borrow.Author.Needs.{needs}
-use Rattle.parts.proofs.spans_inside.Statement.{statement}
-use Rattle.parts.proofs.spans_inside.Tie as tie
+use Rattle.record_inside.proofs.spans_inside.Statement.{statement}
+use Rattle.record_inside.proofs.spans_inside.Tie as tie
 
 inside-requires : tie.Need-inside-requires
 inside-requires c κs = search needs

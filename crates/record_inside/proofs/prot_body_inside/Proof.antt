@@ -1,9 +1,9 @@
 -- Only a body that is location and edit has spans.
 use Rattle.grammar.specs.Contents.{protBodyInside}
-use Rattle.parts.proofs.Laws.{told, both-fail, both-next}
+use Rattle.record_inside.proofs.Laws.{told, both-fail, both-next}
 use borrow.Author.Needs.{needs}
-use Rattle.parts.proofs.prot_body_inside.Statement.{statement}
-use Rattle.parts.proofs.prot_body_inside.Tie as tie
+use Rattle.record_inside.proofs.prot_body_inside.Statement.{statement}
+use Rattle.record_inside.proofs.prot_body_inside.Tie as tie
 
 enum-known-body : tie.Need-enum-known-body
 enum-known-body c = search needs

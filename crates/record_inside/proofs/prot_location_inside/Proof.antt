@@ -1,9 +1,9 @@
 -- Brackets have no span.
 use Rattle.grammar.specs.Contents.{protLocationInside}
-use Rattle.parts.proofs.Laws.{told}
+use Rattle.record_inside.proofs.Laws.{told}
 use borrow.Author.Needs.{needs}
-use Rattle.parts.proofs.prot_location_inside.Statement.{statement}
-use Rattle.parts.proofs.prot_location_inside.Tie as tie
+use Rattle.record_inside.proofs.prot_location_inside.Statement.{statement}
+use Rattle.record_inside.proofs.prot_location_inside.Tie as tie
 
 enum-known-loc : tie.Need-enum-known-loc
 enum-known-loc c = search needs
