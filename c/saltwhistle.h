@@ -31,6 +31,9 @@ struct saltwhistle_answer {
     uint64_t value;
 };
 
+/* Whether the text is a variant line: number and place; the value is 0. */
+struct saltwhistle_answer saltwhistle_check(const uint8_t *text, size_t text_length);
+
 /* Writes the shortest text that reads as the same variant to the front of output, without a byte 0 behind it.
  * Bytes behind it are not changed; where the number is not 0, no byte of output is. */
 struct saltwhistle_answer saltwhistle_shortest(const uint8_t *text, size_t text_length,

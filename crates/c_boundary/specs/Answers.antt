@@ -11,18 +11,22 @@ use Rattle.promise.specs.Width.{Measures}
 use Rattle.c_boundary.specs.declared.Answer.{Answer}
 
 -- on a refusal the length or width is 0
-abbrev pub refusal : ℕ → ℕ → Answer
-refusal n place = record { number = n; place = place; value = 0 }
+abbrev pub bareAnswer : ℕ → ℕ → Answer
+bareAnswer n place = record { number = n; place = place; value = 0 }
 
 abbrev pub numbered : Outcome ℕ → Answer
 numbered (given n) = record { number = 0; place = 0; value = n }
-numbered (refused n place) = refusal n place
+numbered (refused n place) = bareAnswer n place
+
+pub data Checks (t : List ℕ) : Answer → Type 0 where
+  unread : (n place : ℕ) → Reads allLetters t (refused n place) → Checks t (bareAnswer n place)
+  accepted : (v : HgvsVariant) → Reads allLetters t (given v) → Checks t (bareAnswer 0 0)
 
 -- T says which text is to be written for a value
 pub data Rewrites (T : Value → List ℕ → Type 0) (t output : List ℕ) : Answer → List ℕ → Type 0 where
-  unread : (n place : ℕ) → Reads allLetters t (refused n place) → Rewrites T t output (refusal n place) output
+  unread : (n place : ℕ) → Reads allLetters t (refused n place) → Rewrites T t output (bareAnswer n place) output
   written : (v : HgvsVariant) → Reads allLetters t (given v) → (a : Outcome ℕ) (o : List ℕ) → Writes allLetters T t v output a o → Rewrites T t output (numbered a) o
 
 pub data Gauges (t : List ℕ) : Answer → Type 0 where
-  unread : (n place : ℕ) → Reads allLetters t (refused n place) → Gauges t (refusal n place)
+  unread : (n place : ℕ) → Reads allLetters t (refused n place) → Gauges t (bareAnswer n place)
   measured : (v : HgvsVariant) → Reads allLetters t (given v) → (a : Outcome ℕ) → Measures allLetters t v a → Gauges t (numbered a)

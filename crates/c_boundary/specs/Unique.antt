@@ -14,7 +14,7 @@ use Rattle.promise.specs.NoRef.{NoRefText}
 use Rattle.promise.specs.Unique.{reads-unique, writes-unique, measures-unique, one-shortest, one-no-ref}
 use Rattle.reader.specs.Unique.{one-tree}
 use Rattle.c_boundary.specs.declared.Answer.{Answer}
-use Rattle.c_boundary.specs.Answers.{numbered, Rewrites, Gauges}
+use Rattle.c_boundary.specs.Answers.{numbered, Checks, Rewrites, Gauges}
 
 one-outcome : (t : List ℕ) (a b : Outcome HgvsVariant) → Reads allLetters t a → Reads allLetters t b → a ≡ b
 one-outcome t a b = reads-unique allLetters one-tree t a b
@@ -28,6 +28,12 @@ refused-given e = clash refl (ap isRefused e)
 
 one-record : (t : List ℕ) (v w : HgvsVariant) → Reads allLetters t (given v) → Reads allLetters t (given w) → v ≡ w
 one-record t v w r s = let e = one-outcome t (given v) (given w) r s in cc
+
+pub one-check-answer : (t : List ℕ) (a b : Answer) → Checks t a → Checks t b → a ≡ b
+one-check-answer t a b (Checks.unread n k r) (Checks.unread m l s) = let e = one-outcome t (refused n k) (refused m l) r s in cc
+one-check-answer t a b (Checks.unread n k r) (Checks.accepted w s) = absurd (refused-given (one-outcome t (refused n k) (given w) r s))
+one-check-answer t a b (Checks.accepted v r) (Checks.unread m l s) = absurd (refused-given (one-outcome t (refused m l) (given v) s r))
+one-check-answer t a b (Checks.accepted v r) (Checks.accepted w s) = refl
 
 module _ (T : Value → List ℕ → Type 0) (one-text : (v : Value) (t u : List ℕ) → T v t → T v u → t ≡ u) (t output : List ℕ) where
   rewrites-unique : (a b : Answer) (o p : List ℕ) → Rewrites T t output a o → Rewrites T t output b p → (a ≡ b) × (o ≡ p)

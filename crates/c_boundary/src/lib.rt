@@ -7,7 +7,7 @@ ghost use Rattle.grammar.specs.Texts.{allLetters};
 ghost use Rattle.promise.specs.Outcome.{writeOutcome, widthOutcome};
 ghost use Rattle.promise.specs.Writing.{ToWrite};
 ghost use Rattle.promise.specs.NoRef.{NoRefText};
-ghost use Rattle.c_boundary.specs.Answers.{refusal, numbered, Rewrites, Gauges};
+ghost use Rattle.c_boundary.specs.Answers.{bareAnswer, numbered, Checks, Rewrites, Gauges};
 
 // Document 01's number, 0 where the text was accepted; the place; and the length or width, 0 where it was refused.
 #[repr(C)]
@@ -17,8 +17,9 @@ pub struct Answer {
     pub value: u64,
 }
 
-fn refused(number: u64, place: u64) -> Answer
-    ensures { λ r. ⌜ r ≡ refusal number place ⌝ }
+// No length and no width.
+fn bare(number: u64, place: u64) -> Answer
+    ensures { λ r. ⌜ r ≡ bareAnswer number place ⌝ }
 {
     Answer {
         number,
@@ -36,10 +37,10 @@ fn of_write(a: WriteAnswer) -> Answer
             place: 0,
             value: n as u64,
         },
-        WriteAnswer::TooLong => refused(1, 0),
-        WriteAnswer::BadSpan => refused(4, 0),
-        WriteAnswer::NoText => refused(5, 0),
-        WriteAnswer::NoRoom => refused(6, 0),
+        WriteAnswer::TooLong => bare(1, 0),
+        WriteAnswer::BadSpan => bare(4, 0),
+        WriteAnswer::NoText => bare(5, 0),
+        WriteAnswer::NoRoom => bare(6, 0),
     }
 }
 
@@ -52,10 +53,23 @@ fn of_width(a: WidthAnswer) -> Answer
             place: 0,
             value: n,
         },
-        WidthAnswer::TooLong => refused(1, 0),
-        WidthAnswer::BadSpan => refused(4, 0),
-        WidthAnswer::NoText => refused(5, 0),
-        WidthAnswer::NoWidth => refused(7, 0),
+        WidthAnswer::TooLong => bare(1, 0),
+        WidthAnswer::BadSpan => bare(4, 0),
+        WidthAnswer::NoText => bare(5, 0),
+        WidthAnswer::NoWidth => bare(7, 0),
+    }
+}
+
+// Whether the text is one of the grammar whose numbers fit.
+#[no_mangle]
+pub extern "C" fn saltwhistle_check(text: &[u8]) -> Answer
+    ensures { λ r. ⌜ Checks (now (text .entry)) r ⌝ }
+{
+    match reader::read(text) {
+        ReadAnswer::Accepted(_) => bare(0, 0),
+        ReadAnswer::TooLong => bare(1, 0),
+        ReadAnswer::NotInGrammar => bare(2, 0),
+        ReadAnswer::DoesNotFit(place) => bare(3, place as u64),
     }
 }
 
@@ -66,9 +80,9 @@ pub extern "C" fn saltwhistle_shortest(text: &[u8], output: &mut [u8]) -> Answer
 {
     match reader::read(text) {
         ReadAnswer::Accepted(v) => of_write(writer::write(text, v, output)),
-        ReadAnswer::TooLong => refused(1, 0),
-        ReadAnswer::NotInGrammar => refused(2, 0),
-        ReadAnswer::DoesNotFit(place) => refused(3, place as u64),
+        ReadAnswer::TooLong => bare(1, 0),
+        ReadAnswer::NotInGrammar => bare(2, 0),
+        ReadAnswer::DoesNotFit(place) => bare(3, place as u64),
     }
 }
 
@@ -79,9 +93,9 @@ pub extern "C" fn saltwhistle_noref(text: &[u8], output: &mut [u8]) -> Answer
 {
     match reader::read(text) {
         ReadAnswer::Accepted(v) => of_write(writer::write_noref(text, v, output)),
-        ReadAnswer::TooLong => refused(1, 0),
-        ReadAnswer::NotInGrammar => refused(2, 0),
-        ReadAnswer::DoesNotFit(place) => refused(3, place as u64),
+        ReadAnswer::TooLong => bare(1, 0),
+        ReadAnswer::NotInGrammar => bare(2, 0),
+        ReadAnswer::DoesNotFit(place) => bare(3, place as u64),
     }
 }
 
@@ -92,8 +106,8 @@ pub extern "C" fn saltwhistle_width(text: &[u8]) -> Answer
 {
     match reader::read(text) {
         ReadAnswer::Accepted(v) => of_width(measure::width(text, v)),
-        ReadAnswer::TooLong => refused(1, 0),
-        ReadAnswer::NotInGrammar => refused(2, 0),
-        ReadAnswer::DoesNotFit(place) => refused(3, place as u64),
+        ReadAnswer::TooLong => bare(1, 0),
+        ReadAnswer::NotInGrammar => bare(2, 0),
+        ReadAnswer::DoesNotFit(place) => bare(3, place as u64),
     }
 }
