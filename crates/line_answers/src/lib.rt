@@ -18,9 +18,10 @@ fn read(text: &[u8], long: bool) -> ReadAnswer {
 }
 
 // The answer to a text and, where they are wanted, the columns of its record.
-fn answer(text: &[u8], out: &mut [u8], at: usize, r: ReadAnswer, columns: bool) -> usize
+fn answer(text: &[u8], long: bool, out: &mut [u8], at: usize, columns: bool) -> usize
     ensures { λ r. ⌜ r ≤ length (now (out .entry)) ⌝ }
 {
+    let r = read(text, long);
     let behind = show::answer(text, out, at, r);
     if columns {
         if let ReadAnswer::Accepted(v) = r {
@@ -37,7 +38,7 @@ fn answer_line(buffer: &[u8], line: Line, out: &mut [u8], at: usize, columns: bo
 {
     let len = line.len;
     let text = &buffer[..len];
-    let behind = answer(text, out, at, read(text, line.long), columns);
+    let behind = answer(text, line.long, out, at, columns);
     show::room::byte(out, behind, b'\n')
 }
 

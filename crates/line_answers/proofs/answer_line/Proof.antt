@@ -8,9 +8,6 @@ use Rattle.line_answers.proofs.answer_line.Tie as tie
 slice-aggregate-text : tie.Need-slice-aggregate-text
 slice-aggregate-text c = let a = c .before .before .before .args in sym (length-take-le (a .line .len) (a .buffer .now) (omega arith))
 
-read-requires : tie.Need-read-requires
-read-requires c κs = search needs
-
 answer-requires : tie.Need-answer-requires
 answer-requires c κs = search needs
 
@@ -26,4 +23,4 @@ returns c = search needs
 pub answer-line-spec : {M : Type 1} → statement M
 answer-line-spec =
     tie.close
-    (tie.spec slice-aggregate-text read-requires answer-requires byte-requires same-length returns)
+    (tie.spec slice-aggregate-text answer-requires byte-requires same-length returns)
