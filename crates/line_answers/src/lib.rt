@@ -25,7 +25,7 @@ fn answer(buffer: &[u8], line: Line, out: &mut [u8], at: usize) -> usize
     let len = line.len;
     let text = &buffer[..len];
     let behind = show::answer(text, out, at, read(text, line.long));
-    show::room::byte(out, behind, b'\n')
+    room::byte(out, behind, b'\n')
 }
 
 // One line of the piece, or as much of one as there is.
