@@ -10,8 +10,8 @@ ghost use Rattle.columns.specs.Given.{givenLength};
 fn refusal(out: &mut [u8], at: usize, number: u32) -> usize
     ensures { λ r. ⌜ r ≤ length (now (out .entry)) ⌝ }
 {
-    let a = show::room::text(out, at, b"! ");
-    show::room::decimal(out, a, number)
+    let a = room::text(out, at, b"! ");
+    room::decimal(out, a, number)
 }
 
 // The place behind a text that was written at a place.
@@ -33,9 +33,9 @@ fn wide(out: &mut [u8], at: usize, n: u64) -> usize
     ensures { λ r. ⌜ r ≤ length (now (out .entry)) ⌝ }
 {
     if n < 4294967296 {
-        return show::room::decimal(out, at, n as u32);
+        return room::decimal(out, at, n as u32);
     }
-    show::room::text(out, at, b"4294967296")
+    room::text(out, at, b"4294967296")
 }
 
 fn width(out: &mut [u8], at: usize, w: WidthAnswer) -> usize
@@ -54,12 +54,12 @@ fn width(out: &mut [u8], at: usize, w: WidthAnswer) -> usize
 pub fn columns(source: &[u8], out: &mut [u8], at: usize, v: HgvsVariant) -> usize
     ensures { λ r. ⌜ r ≤ length (now (out .entry)) ⌝ }
 {
-    let a = show::room::byte(out, at, b'\t');
+    let a = room::byte(out, at, b'\t');
     let shortest = writer::write(source, v, &mut out[a..]);
     let b = written(out, a, shortest);
-    let c = show::room::byte(out, b, b'\t');
+    let c = room::byte(out, b, b'\t');
     let without_reference = writer::write_noref(source, v, &mut out[c..]);
     let d = written(out, c, without_reference);
-    let e = show::room::byte(out, d, b'\t');
+    let e = room::byte(out, d, b'\t');
     width(out, e, measure::width(source, v))
 }

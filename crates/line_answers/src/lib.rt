@@ -39,7 +39,7 @@ fn answer_line(buffer: &[u8], line: Line, out: &mut [u8], at: usize, columns: bo
     let len = line.len;
     let text = &buffer[..len];
     let behind = answer(text, line.long, out, at, columns);
-    show::room::byte(out, behind, b'\n')
+    room::byte(out, behind, b'\n')
 }
 
 // One line of the piece, or as much of one as there is.

@@ -60,13 +60,3 @@ pub fn integer(out: &mut [u8], at: usize, v: i32) -> usize
     }
     decimal(out, at, number::magnitude(v))
 }
-
-// C for what is certain, U for what is not.
-pub fn certainty(out: &mut [u8], at: usize, uncertain: bool) -> usize
-    ensures { λ r. ⌜ r ≤ length (now (out .entry)) ⌝ }
-{
-    if uncertain {
-        return byte(out, at, b'U');
-    }
-    byte(out, at, b'C')
-}
