@@ -2,7 +2,7 @@
 use Prim.Native.Nat.{ℕ}
 use Prim.Native.Char.{code}
 use mathlib.Core.List.{List}
-use mathlib.Core.Bool.{Bool, true, false, cond, _&&_}
+use mathlib.Core.Bool.{Bool, true, cond, _&&_}
 use lib.IntN.{ℤ, pos, negsuc, natAbs}
 use Rattle.number.specs.Reading.{fits}
 use Rattle.number.specs.Signs.{signOf}
@@ -15,11 +15,9 @@ use Rattle.record.specs.declared.positions.Offset.the-variants.{Absent, By}
 use Rattle.record.specs.declared.positions.CdsFrom.{CdsFrom}
 use Rattle.record.specs.declared.positions.CdsFrom.the-variants as From
 use Rattle.grammar.specs.Spans.{part}
-use Rattle.grammar.specs.Contents.{positionContent}
-use Rattle.location.specs.Equal.{eqℤ, eqPosition}
 use Rattle.read_location.specs.declared.Position.{Position}
 use Rattle.read_location.specs.declared.Location.{Location}
-use Rattle.read_location.specs.Records.{positionFor}
+use Rattle.same_position.specs.Same.{samePosition}
 use Rattle.emit.specs.Texts.{noSpan, noEnd}
 use Rattle.emit.specs.declared.Mark.{Mark}
 use Rattle.emit.specs.declared.Mark.the-variants.{Nothing, Byte}
@@ -84,13 +82,6 @@ positionPlan s Mt p = genomicPlan (p .unknown) (p .number)
 positionPlan s Tx p = basedPlan From.Start (p .number) (p .offset)
 positionPlan s Prot p = residualPlan s (p .aa) (p .number)
 positionPlan s Rna p = basedPlan From.Start (p .number) (p .offset)
-
--- ---- whether two are one
-abbrev pub eqGenomic : Bool → Bool → ℤ → ℤ → Bool
-eqGenomic isUnknown alsoUnknown v w = cond isUnknown alsoUnknown (cond alsoUnknown false (eqℤ v w))
-
-unfoldable pub samePosition : List ℕ → Kind → Position → Position → Bool
-samePosition s k p q = eqPosition k (positionContent s k (positionFor k p)) (positionContent s k (positionFor k q))
 
 -- ---- locations: in brackets where they are not certain
 abbrev pub bracketMark : Bool → ℕ → Mark

@@ -39,6 +39,7 @@ use Rattle.read_location.specs.declared.Position.{Position}
 use Rattle.read_location.specs.declared.Location.{Location}
 use Rattle.read_location.specs.Records.{positionFor, muFor, locationFor}
 use Rattle.record_location.specs.Locations.{anyLocation, any-location}
+use Rattle.same_position.specs.Same.{samePosition}
 use Rattle.emit.specs.Texts.{markText, amountText, endText, placeText, noSpan, noEnd}
 use Rattle.emit.specs.Laws.{no-part, no-end}
 use Rattle.emit.specs.declared.Mark as Emit
@@ -47,7 +48,7 @@ use Rattle.plan_location.specs.declared.EndPlan.{EndPlan}
 use Rattle.plan_location.specs.declared.EndPlan.the-variants as Ends
 use Rattle.plan_location.specs.declared.PlacePlan.{PlacePlan}
 use Rattle.plan_location.specs.declared.PlacePlan.the-variants as Places
-use Rattle.plan_location.specs.Plan.{held, heldOffset, offsetSign, offsetAmount, endPlan, unsignedPlan, basedPlan, unknownEnd, genomicPlan, residualPlan, positionPlan, samePosition, bracketMark, placePlan, planLocation}
+use Rattle.plan_location.specs.Plan.{held, heldOffset, offsetSign, offsetAmount, endPlan, unsignedPlan, basedPlan, unknownEnd, genomicPlan, residualPlan, positionPlan, bracketMark, placePlan, planLocation}
 
 module _ (s : List ℕ) where
   abbrev pub endPlanText : EndPlan → Option (List ℕ)

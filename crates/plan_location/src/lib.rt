@@ -10,12 +10,9 @@ use record::positions::Offset;
 use record::spans::Span;
 use record::variant::Kind;
 ghost use mathlib.Core.Path.{_≡_};
-ghost use mathlib.Core.Bool.{true, _&&_};
-ghost use Rattle.texts.specs.Words.{same};
-ghost use Rattle.grammar.specs.Spans.{part};
-ghost use Rattle.location.specs.Equal.{eqℤ, eqOffset, eqFrom};
-ghost use Rattle.emit.specs.Texts.{noSpan, noEnd};
-ghost use Rattle.plan_location.specs.Plan.{heldOffset, signMark, offsetSign, offsetAmount, endPlan, unsignedPlan, basedPlan, genomicPlan, residualPlan, positionPlan, eqGenomic, samePosition, bracketMark, placePlan, planLocation};
+ghost use mathlib.Core.Bool.{true};
+ghost use Rattle.emit.specs.Texts.{noEnd};
+ghost use Rattle.plan_location.specs.Plan.{heldOffset, signMark, offsetSign, offsetAmount, endPlan, unsignedPlan, basedPlan, genomicPlan, residualPlan, positionPlan, bracketMark, placePlan, planLocation};
 
 // A position that is to be written, where it has a text.
 pub enum EndPlan {
@@ -29,12 +26,6 @@ pub enum PlacePlan {
 }
 
 // ---- positions
-
-fn no_span() -> Span
-    ensures { λ r. ⌜ r ≡ noSpan ⌝ }
-{
-    Span { start: 0, end: 0 }
-}
 
 // `-` before a number below 0, and `other` before the rest.
 fn sign_mark(other: Mark, n: i32) -> Mark
@@ -93,8 +84,13 @@ fn plan_based(from: CdsFrom, number: i32, offset: Offset) -> EndPlan
     ensures { λ r. ⌜ r ≡ basedPlan from number offset ⌝ }
 {
     match from {
-        CdsFrom::Start => plan_end(no_span(), sign_mark(Mark::Nothing, number), number, offset),
-        CdsFrom::End => plan_unsigned(no_span(), Mark::Byte(b'*'), number, offset),
+        CdsFrom::Start => plan_end(
+            rows::no_span(),
+            sign_mark(Mark::Nothing, number),
+            number,
+            offset,
+        ),
+        CdsFrom::End => plan_unsigned(rows::no_span(), Mark::Byte(b'*'), number, offset),
     }
 }
 
@@ -104,14 +100,14 @@ fn plan_genomic(unknown: bool, number: i32) -> EndPlan
 {
     if unknown {
         return EndPlan::Text(End {
-            residue: no_span(),
+            residue: rows::no_span(),
             mark: Mark::Byte(b'?'),
             number: Amount::Absent,
             sign: Mark::Nothing,
             offset: Amount::Absent,
         });
     }
-    plan_unsigned(no_span(), Mark::Nothing, number, Offset::Absent)
+    plan_unsigned(rows::no_span(), Mark::Nothing, number, Offset::Absent)
 }
 
 // p
@@ -138,123 +134,6 @@ pub fn plan_position(source: &[u8], kind: Kind, p: Position) -> EndPlan
         Kind::Tx => plan_based(CdsFrom::Start, number, offset),
         Kind::Prot => plan_residual(source, aa, number),
         Kind::Rna => plan_based(CdsFrom::Start, number, offset),
-    }
-}
-
-// ---- whether two positions are one, spans by the bytes that they name
-
-fn same_bytes(a: &[u8], b: &[u8]) -> bool
-    ensures { λ r. ⌜ r ≡ same (now (a .entry)) (now (b .entry)) ⌝ }
-{
-    if a.len() == b.len() {
-        return scan::begins(b, a);
-    }
-    false
-}
-
-pub fn same_number(a: i32, b: i32) -> bool
-    ensures { λ r. ⌜ r ≡ eqℤ a b ⌝ }
-{
-    a == b
-}
-
-fn same_offset(a: Offset, b: Offset) -> bool
-    ensures { λ r. ⌜ r ≡ eqOffset a b ⌝ }
-{
-    match a {
-        Offset::Absent => {
-            match b {
-                Offset::Absent => true,
-                Offset::By(_) => false,
-            }
-        }
-        Offset::By(v) => {
-            match b {
-                Offset::Absent => false,
-                Offset::By(w) => same_number(v, w),
-            }
-        }
-    }
-}
-
-fn same_from(a: CdsFrom, b: CdsFrom) -> bool
-    ensures { λ r. ⌜ r ≡ eqFrom a b ⌝ }
-{
-    match a {
-        CdsFrom::Start => {
-            match b {
-                CdsFrom::Start => true,
-                CdsFrom::End => false,
-            }
-        }
-        CdsFrom::End => {
-            match b {
-                CdsFrom::Start => false,
-                CdsFrom::End => true,
-            }
-        }
-    }
-}
-
-// n, r
-fn same_based(p: Position, q: Position) -> bool
-    ensures { λ r. ⌜ r ≡ eqℤ (p .number) (q .number) && eqOffset (p .offset) (q .offset) ⌝ }
-{
-    if same_number(p.number, q.number) {
-        let a = p.offset;
-        let b = q.offset;
-        return same_offset(a, b);
-    }
-    false
-}
-
-// c
-fn same_cds(p: Position, q: Position) -> bool
-    ensures { λ r. ⌜ r ≡ eqℤ (p .number) (q .number) && (eqOffset (p .offset) (q .offset) && eqFrom (p .«cds_from») (q .«cds_from»)) ⌝ }
-{
-    if same_based(p, q) {
-        let a = p.cds_from;
-        let b = q.cds_from;
-        return same_from(a, b);
-    }
-    false
-}
-
-// g, m
-fn same_genomic(p: Position, q: Position) -> bool
-    ensures { λ r. ⌜ r ≡ eqGenomic (p .unknown) (q .unknown) (p .number) (q .number) ⌝ }
-{
-    if p.unknown {
-        return q.unknown;
-    }
-    if q.unknown {
-        return false;
-    }
-    same_number(p.number, q.number)
-}
-
-// p
-fn same_residual(source: &[u8], p: Position, q: Position) -> bool
-    ensures { λ r. ⌜ r ≡ same (part (now (source .entry)) (p .aa)) (part (now (source .entry)) (q .aa)) && eqℤ (p .number) (q .number) ⌝ }
-{
-    let a = p.aa;
-    let b = q.aa;
-    if same_bytes(parts::part_of(source, a), parts::part_of(source, b)) {
-        return same_number(p.number, q.number);
-    }
-    false
-}
-
-fn same_position(source: &[u8], kind: Kind, p: Position, q: Position) -> bool
-    ensures { λ r. ⌜ r ≡ samePosition (now (source .entry)) kind p q ⌝ }
-{
-    match kind {
-        Kind::Cds => same_cds(p, q),
-        Kind::Genome => same_genomic(p, q),
-        Kind::Mt => same_genomic(p, q),
-        Kind::Tx => same_based(p, q),
-        Kind::Prot => same_residual(source, p, q),
-        Kind::Rna => same_based(p, q),
     }
 }
 
@@ -292,7 +171,7 @@ fn no_end() -> EndPlan
     ensures { λ r. ⌜ r ≡ EndPlan.Text noEnd ⌝ }
 {
     EndPlan::Text(End {
-        residue: no_span(),
+        residue: rows::no_span(),
         mark: Mark::Nothing,
         number: Amount::Absent,
         sign: Mark::Nothing,
@@ -307,7 +186,7 @@ pub fn plan_location(source: &[u8], kind: Kind, l: Location) -> PlacePlan
     let start = l.start;
     let end = l.end;
     let first = plan_position(source, kind, start);
-    if same_position(source, kind, start, end) {
+    if same_position::same_position(source, kind, start, end) {
         return plan_place(l.certain, first, Mark::Nothing, no_end());
     }
     plan_place(

@@ -44,11 +44,12 @@ use Rattle.rows.specs.Laws.{word-alone}
 use Rattle.rows.specs.declared.RowPlan.{RowPlan}
 use Rattle.rows.specs.declared.RowPlan.the-variants as Rows
 use Rattle.draft.specs.Texts.{bodyText}
+use Rattle.same_position.specs.Same.{samePosition}
 use Rattle.plan_location.specs.declared.EndPlan.{EndPlan}
 use Rattle.plan_location.specs.declared.EndPlan.the-variants as EndPlans
 use Rattle.plan_location.specs.declared.PlacePlan.{PlacePlan}
 use Rattle.plan_location.specs.declared.PlacePlan.the-variants as Places
-use Rattle.plan_location.specs.Plan.{placePlan, samePosition, positionPlan, planLocation}
+use Rattle.plan_location.specs.Plan.{placePlan, positionPlan, planLocation}
 use Rattle.plan_location.specs.Planned as L
 use Rattle.plan_location.specs.Planned.{muOf}
 use Rattle.plan_protein_edit.specs.Plan.{planProteinEdit}

@@ -37,7 +37,7 @@ fn is_met_one(source: &[u8], p: Position) -> bool
 {
     let aa = p.aa;
     if spells(source, aa, b"Met") {
-        return plan_location::same_number(p.number, 1);
+        return same_position::same_number(p.number, 1);
     }
     false
 }

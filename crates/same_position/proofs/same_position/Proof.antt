@@ -1,9 +1,9 @@
 use mathlib.Core.Path.{_∙_}
-use Rattle.plan_location.specs.Plan.{samePosition}
-use Rattle.plan_location.proofs.Laws.{genome-same, mt-same}
+use Rattle.same_position.specs.Same.{samePosition}
+use Rattle.same_position.proofs.Laws.{genome-same, mt-same}
 use borrow.Author.Needs.{needs}
-use Rattle.plan_location.proofs.same_position.Statement.{statement}
-use Rattle.plan_location.proofs.same_position.Tie as tie
+use Rattle.same_position.proofs.same_position.Statement.{statement}
+use Rattle.same_position.proofs.same_position.Tie as tie
 
 enum-told : tie.Need-enum-told
 enum-told c = search needs

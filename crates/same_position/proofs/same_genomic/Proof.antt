@@ -2,8 +2,8 @@ use mir.Facts.{toZ-ofZ}
 use mir.Syntax.{w32}
 use mir.Val.{SFits}
 use borrow.Author.Needs.{needs}
-use Rattle.plan_location.proofs.same_genomic.Statement.{statement}
-use Rattle.plan_location.proofs.same_genomic.Tie as tie
+use Rattle.same_position.proofs.same_genomic.Statement.{statement}
+use Rattle.same_position.proofs.same_genomic.Tie as tie
 
 returns : tie.Need-returns
 returns c = rw (c .if1 .taken)

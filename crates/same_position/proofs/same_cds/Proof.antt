@@ -1,9 +1,9 @@
 use Rattle.location.specs.Equal.{eqℤ, eqOffset, eqFrom}
 use mathlib.Core.Path.{sym, _∙_}
-use Rattle.plan_location.proofs.Laws.{third-test, no-third-test}
+use Rattle.same_position.proofs.Laws.{third-test, no-third-test}
 use borrow.Author.Needs.{needs}
-use Rattle.plan_location.proofs.same_cds.Statement.{statement}
-use Rattle.plan_location.proofs.same_cds.Tie as tie
+use Rattle.same_position.proofs.same_cds.Statement.{statement}
+use Rattle.same_position.proofs.same_cds.Tie as tie
 
 same-based-requires : tie.Need-same-based-requires
 same-based-requires c κs = search needs

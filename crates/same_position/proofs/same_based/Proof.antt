@@ -5,8 +5,8 @@ use mir.Syntax.{w32}
 use mir.Val.{SFits}
 use Rattle.location.specs.Equal.{eqℤ}
 use borrow.Author.Needs.{needs}
-use Rattle.plan_location.proofs.same_based.Statement.{statement}
-use Rattle.plan_location.proofs.same_based.Tie as tie
+use Rattle.same_position.proofs.same_based.Statement.{statement}
+use Rattle.same_position.proofs.same_based.Tie as tie
 
 same-number-requires : tie.Need-same-number-requires
 same-number-requires c κs = search needs

@@ -2,8 +2,8 @@ use mir.Facts.{toZ-ofZ}
 use mir.Syntax.{w32}
 use mir.Val.{SFits}
 use borrow.Author.Needs.{needs}
-use Rattle.plan_location.proofs.same_offset.Statement.{statement}
-use Rattle.plan_location.proofs.same_offset.Tie as tie
+use Rattle.same_position.proofs.same_offset.Statement.{statement}
+use Rattle.same_position.proofs.same_offset.Tie as tie
 
 enum-told : tie.Need-enum-told
 enum-told c = search needs

@@ -6,8 +6,8 @@ use mir.Val.{SFits}
 use Rattle.texts.specs.Words.{same}
 use Rattle.grammar.specs.Spans.{part}
 use borrow.Author.Needs.{needs}
-use Rattle.plan_location.proofs.same_residual.Statement.{statement}
-use Rattle.plan_location.proofs.same_residual.Tie as tie
+use Rattle.same_position.proofs.same_residual.Statement.{statement}
+use Rattle.same_position.proofs.same_residual.Tie as tie
 
 part-of-requires : tie.Need-part-of-requires
 part-of-requires c κs = search needs

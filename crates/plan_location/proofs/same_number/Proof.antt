@@ -1,9 +1,0 @@
-use Rattle.plan_location.proofs.Laws.{machine-equal}
-use Rattle.plan_location.proofs.same_number.Statement.{statement}
-use Rattle.plan_location.proofs.same_number.Tie as tie
-
-returns : tie.Need-returns
-returns c = machine-equal _ _ (c .fits .a) (c .fits .b)
-
-pub same-number-spec : {M : Type 1} → statement M
-same-number-spec = tie.close (tie.spec returns)
