@@ -1,6 +1,6 @@
 -- The place of a number that does not fit lies in the source in which the tree's text stands.
 use Prim.Native.Nat.{ℕ, _+_, _≤_}
-use mathlib.Core.Path.{_≡_, refl}
+use mathlib.Core.Path.{_≡_}
 use mathlib.Core.List.{List, [], _∷_, _++_}
 use mathlib.Core.Option.{Option, none, some}
 use mathlib.Core.Bool.{Bool, true, false, cond}
@@ -19,7 +19,7 @@ use Rattle.grammar.specs.NucleotideEdits.{NaEdit, NaEdit.equal, NaEdit.swap, Na
 use Rattle.grammar.specs.Optional.{printOptional}
 use Rattle.grammar.specs.ProteinEdits as P
 use Rattle.grammar.specs.ProteinEdits.{ProteinEdit, Length, Length.counted, Length.unsaid, Stop, Stop.stop, ExtEnd, ExtEnd.nothing, ExtEnd.later, ExtEnd.earlier, printTerminal, printStop, printFsEnd, printExtEnd, printProteinEdit}
-use Rattle.grammar.specs.Bodies.{Ends, Location, printEnds, printLocation, NaBody, ProteinBody, ProteinBody.met1, ProteinBody.bracketedMet1, ProteinBody.noProteinUncertain, ProteinBody.noProtein, ProteinBody.noChangeUncertain, ProteinBody.noChange, ProteinBody.unknown, ProteinBody.change, ProteinBody.bracketed, Body, printNaBody, printBody, printProteinBody}
+use Rattle.grammar.specs.Bodies.{Ends, printEnds, printLocation, NaBody, ProteinBody, ProteinBody.met1, ProteinBody.bracketedMet1, ProteinBody.noProteinUncertain, ProteinBody.noProtein, ProteinBody.noChangeUncertain, ProteinBody.noChange, ProteinBody.unknown, ProteinBody.change, ProteinBody.bracketed, Body, printNaBody, printBody, printProteinBody}
 use Rattle.grammar.specs.Texts.{Text, Text.text, print}
 use Rattle.grammar.specs.Numbers.{Numeral, Numeral.numeral, misfit, offsetNumbers, basedNumbers, genomicNumbers, residualNumbers, positionNumbers, endsNumbers, muNumbers, naEditNumbers, stopNumbers, fsNumbers, extNumbers, proteinEditNumbers, naBodyNumbers, proteinBodyNumbers, bodyNumbers, numbersAt}
 use Rattle.grammar.specs.Standing.{Stands, left, right, stands-end, stands-whole}

@@ -3,7 +3,7 @@ use Prim.Native.Nat.{ℕ, _+_}
 use mathlib.Core.Path.{_≡_, refl}
 use mathlib.Core.List.{List, [], _∷_, _++_}
 use mathlib.Core.Option.{Option, none, some}
-use mathlib.Core.Bool.{Bool, true, _&&_}
+use mathlib.Core.Bool.{true}
 use lib.ListN.{length}
 use Rattle.texts.specs.Ascii.{ascii}
 use Rattle.texts.specs.Tests.{true-and}
@@ -17,10 +17,10 @@ use Rattle.grammar.specs.NucleotideEdits.{NaEdit, NaEdit.equal, NaEdit.swap, Na
 use Rattle.grammar.specs.Optional.{printOptional}
 use Rattle.grammar.specs.ProteinEdits as P
 use Rattle.grammar.specs.ProteinEdits.{ProteinEdit, Stop, Stop.stop, ExtEnd, ExtEnd.nothing, ExtEnd.later, ExtEnd.earlier, printTerminal, printFsEnd, printExtEnd, printProteinEdit}
-use Rattle.grammar.specs.Bodies.{Ends, Location, printEnds, printLocation, ProteinBody, ProteinBody.met1, ProteinBody.bracketedMet1, ProteinBody.noProteinUncertain, ProteinBody.noProtein, ProteinBody.noChangeUncertain, ProteinBody.noChange, ProteinBody.unknown, ProteinBody.change, ProteinBody.bracketed, Body, printBody, printProteinBody}
+use Rattle.grammar.specs.Bodies.{Location, printEnds, printLocation, ProteinBody, ProteinBody.met1, ProteinBody.bracketedMet1, ProteinBody.noProteinUncertain, ProteinBody.noProtein, ProteinBody.noChangeUncertain, ProteinBody.noChange, ProteinBody.unknown, ProteinBody.change, ProteinBody.bracketed, Body, printBody, printProteinBody}
 use Rattle.grammar.specs.Texts.{Text, Text.text, print}
 use Rattle.grammar.specs.Spans.{inside, insideOptional}
-use Rattle.grammar.specs.Records.{span, spanOf, partOf, protAt, intervalAt, locationAt, naEditAt, muNaEditAt, fsAt, extAt, proteinEditAt, muProteinEditAt, proteinBodyAt, bodyAt, recordAt}
+use Rattle.grammar.specs.Records.{span, partOf, protAt, locationAt, naEditAt, muNaEditAt, fsAt, extAt, proteinEditAt, muProteinEditAt, proteinBodyAt, bodyAt, recordAt}
 use Rattle.grammar.specs.Contents.{protLocationInside, naEditInside, muNaEditInside, proteinEditInside, muProteinEditInside, protBodyInside, bodyInside, spansInside}
 use Rattle.grammar.specs.Standing.{Stands, left, right, stands-inside, stands-whole}
 

@@ -1,30 +1,27 @@
 -- The answer to a line is what reading it and then writing its record prescribe, and no other; and it is short.
-use Prim.Native.Nat.{ℕ, _+_, _^_, _≤_, _<_}
+use Prim.Native.Nat.{ℕ, _^_, _≤_, _<_}
 use mathlib.Core.Path.{_≡_, refl, sym, ap, _∙_}
-use mathlib.Core.List.{List, [], _∷_, _++_}
+use mathlib.Core.List.{List}
 use mathlib.Core.Option.{Option, none, some}
 use mathlib.Core.Bool.{Bool, true, false, cond}
 use native.Mathlib.Omega.{arith}
 use lib.Dec.{leb}
-use lib.ListN.{length, drop, length-append}
+use lib.ListN.{length, length-append}
 use borrow.Author.Tests.{le-leb, lt-leb, leb-true, leb-false}
-use Rattle.texts.specs.Ascii.{ascii}
 use Rattle.texts.specs.Tests.{clash, none-some}
 use Rattle.texts.specs.Best.{best-length}
 use Rattle.lent.specs.Put.{put, put-front}
-use Rattle.number.specs.Digits.{dec}
 use Rattle.number.specs.Decimals.{dec-short}
 use Rattle.record.specs.declared.variant.HgvsVariant.{HgvsVariant}
-use Rattle.grammar.specs.Texts.{Text, print, Wf, allLetters}
+use Rattle.grammar.specs.Texts.{Text, print, allLetters}
 use Rattle.grammar.specs.Meaning.{meaning}
 use Rattle.grammar.specs.Numbers.{misfit, numbersAt}
 use Rattle.grammar.specs.Records.{recordAt}
-use Rattle.grammar.specs.Contents.{content, spansInside}
+use Rattle.grammar.specs.Contents.{content}
 use Rattle.grammar.specs.ContentLaw.{content-is}
 use Rattle.bodies.specs.WholeText.{parseText, sound-text, complete-text}
 use Rattle.promise.specs.Outcome.{Outcome, Outcome.given, Outcome.refused, limit}
 use Rattle.promise.specs.Reading.{TreeOf, Reads, Reads.tooLong, Reads.notInGrammar, Reads.doesNotFit, Reads.accepted}
-use Rattle.promise.specs.Writing as Write
 use Rattle.promise.specs.Writing.{ReadsAsValue, ShortestText, Unsound, Unsound.tooLong, Unsound.badSpan, Unsound.noText, Writes, ToWrite}
 use Rattle.inside.specs.Spans.{spans-in-text}
 use Rattle.inside.specs.Places.{place-in-text}
@@ -33,7 +30,7 @@ use Rattle.reader.specs.Answer.{alphabets}
 use Rattle.reader.specs.Unique.{reads-content}
 use Rattle.lines.specs.Lines.{Held, Held.whole, Held.tooLong, held}
 use Rattle.lines.specs.Laws.{held-fits, held-long}
-use Rattle.line_promise.specs.Answer.{refusal, Answers, Answers.text, Answers.number, ofCanon, ofMisfit, ofTree, lineAnswer}
+use Rattle.line_promise.specs.Answer.{refusal, Answers, Answers.text, Answers.number, ofMisfit, ofTree, lineAnswer}
 
 pub refusal-short : (n place : ℕ) → n < 2 ^ 32 → place < 2 ^ 32 → length (refusal n place) ≤ limit
 unfolding refusal

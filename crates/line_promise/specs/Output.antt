@@ -1,18 +1,13 @@
 -- Document 01, "Line program": what is written for an input, and that an input cut into pieces anyhow has it written.
 use Prim.Native.Nat.{ℕ, _+_, _≤_}
-use mathlib.Core.Path.{_≡_, refl, sym, ap, _∙_}
-use mathlib.Core.Bool.{Bool, true, false}
+use mathlib.Core.Path.{_≡_, refl}
 use mathlib.Core.List.{List, [], _∷_, _++_, flatMap, flatten}
-use native.Mathlib.Omega.{arith}
-use lib.Dec.{leb}
 use lib.ListN.{length}
-use borrow.Author.Tests.{le-leb, leb-true, leb-false}
+use borrow.Author.Tests.{le-leb}
 use Rattle.promise.specs.Outcome.{limit}
-use Rattle.promise.specs.Reading.{Reads.tooLong}
 use Rattle.lines.specs.Lines.{lineEnd, linesOf, held, output}
 use Rattle.lines.specs.Taking.{noLine}
 use Rattle.lines.specs.Feeding.{written, Writes}
-use Rattle.lines.specs.Laws.{held-fits, held-long}
 use Rattle.lines.specs.Cuts.{writes-some, written-anyhow, writes-anyhow}
 use Rattle.lines.specs.Steps.{roomFor}
 use Rattle.line_promise.specs.Answer.{Answers, lineAnswer}

@@ -1,4 +1,3 @@
-use borrow.Author.Needs.{needs}
 use Rattle.canonical_line.proofs.write.Statement.{statement}
 use Rattle.canonical_line.proofs.write.Tie as tie
 
