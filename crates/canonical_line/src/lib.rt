@@ -11,17 +11,9 @@ ghost use Rattle.lent.specs.Put.{put};
 ghost use Rattle.grammar.specs.Texts.{allLetters};
 ghost use Rattle.promise.specs.Outcome.{Outcome.given, writeOutcome};
 ghost use Rattle.promise.specs.Reading.{Reads};
-ghost use Rattle.promise.specs.Writing.{Writes, ToWrite};
 ghost use Rattle.lines.specs.Lines.{lineEnd, Held.whole, Held.tooLong};
 ghost use Rattle.line_promise.specs.Answer.{refusal, lineAnswer};
 ghost use Rattle.canonical_line.specs.Given.{lengthGiven};
-
-// STAND-IN for writer::write, whose contract this is: its proof is a hole.
-fn write(source: &[u8], v: HgvsVariant, output: &mut [u8]) -> WriteAnswer
-    ensures { λ r. ⌜ Writes allLetters (ToWrite allLetters) (now (source .entry)) v (now (output .entry)) (writeOutcome r) (now (output .exit)) ⌝ }
-{
-    WriteAnswer::NoText
-}
 
 fn put_refusal(out: &mut [u8], at: usize, number: u32, place: u32) -> usize
     requires { ⌜ at + length (refusal number place) ≤ length (now out) ⌝ }
@@ -50,7 +42,7 @@ fn put_text(line: &[u8], v: HgvsVariant, out: &mut [u8], at: usize) -> usize
     requires { ⌜ Reads allLetters (now line) (given v) × (at + 4096 ≤ length (now out)) ⌝ }
     ensures { λ r. ⌜ (r ≡ at + length (lineAnswer (whole (now (line .entry))))) × (now (out .exit) ≡ put (now (out .entry)) at (lineAnswer (whole (now (line .entry))))) ⌝ }
 {
-    let w = write(line, v, &mut out[at..]);
+    let w = writer::write(line, v, &mut out[at..]);
     at + length_given(w)
 }
 

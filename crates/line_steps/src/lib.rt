@@ -2,12 +2,11 @@
 use lines::Line;
 use lines::Progress;
 ghost use mathlib.Core.Path.{_≡_};
-ghost use mathlib.Core.Bool.{cond};
 ghost use mathlib.Core.List.{_++_, _∷_, []};
 ghost use Prim.Native.Nat.{_+_, _≤_};
 ghost use lib.ListN.{length};
 ghost use Rattle.lent.specs.Put.{put};
-ghost use Rattle.lines.specs.Lines.{lineEnd, Held.whole, Held.tooLong};
+ghost use Rattle.lines.specs.Lines.{lineEnd};
 ghost use Rattle.lines.specs.Taking.{heldIn, stored};
 ghost use Rattle.lines.specs.Feeding.{writes, finished, clear, said};
 ghost use Rattle.lines.specs.Steps.{wentTo, Stepped};
@@ -17,21 +16,13 @@ ghost use Rattle.line_promise.specs.Output.{mostBytes};
 // The most bytes of an answer and LF.
 const MOST: usize = 4097;
 
-// STAND-IN for canonical_line::answer, whose contract this is: its proof is a hole.
-fn answer(line: &[u8], long: bool, out: &mut [u8], at: usize) -> usize
-    requires { ⌜ at + 4097 ≤ length (now out) ⌝ }
-    ensures { λ r. ⌜ (r ≡ at + length (lineAnswer (cond long tooLong (whole (now (line .entry)))) ++ (lineEnd ∷ []))) × (now (out .exit) ≡ put (now (out .entry)) at (lineAnswer (cond long tooLong (whole (now (line .entry)))) ++ (lineEnd ∷ []))) ⌝ }
-{
-    at
-}
-
 // The answer to the line that the buffer holds, and LF.
 fn put_line(buffer: &[u8], line: Line, out: &mut [u8], at: usize) -> usize
     requires { ⌜ (line .len ≤ length (now buffer)) × (at + 4097 ≤ length (now out)) ⌝ }
     ensures { λ r. ⌜ (r ≡ at + length (lineAnswer (heldIn (now (buffer .entry)) line) ++ (lineEnd ∷ []))) × (now (out .exit) ≡ put (now (out .entry)) at (lineAnswer (heldIn (now (buffer .entry)) line) ++ (lineEnd ∷ []))) ⌝ }
 {
     let len = line.len;
-    answer(&buffer[..len], line.long, out, at)
+    canonical_line::answer(&buffer[..len], line.long, out, at)
 }
 
 // One line of the piece, or as much of one as there is.
