@@ -4,3 +4,4 @@ pub mod ProteinBodyCanon
 pub mod TextCanon
 pub mod NoRefCanon
 pub mod Pairs
+pub mod Wording

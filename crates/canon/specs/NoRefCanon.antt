@@ -125,10 +125,10 @@ mu-found na al (uncertain v) t h =
     record { tree = uncertain (c .tree); found = rw (c .found); text = rw (c .text) }
 
 -- ---- header and location as in shortest writing
-header-shortest : (v : HeaderV) (t : Header) → canonHeader v ≡ some t → ShortestHeader (printHeader t) v
+pub header-shortest : (v : HeaderV) (t : Header) → canonHeader v ≡ some t → ShortestHeader (printHeader t) v
 header-shortest = canon-some headerLang headerCanon
 
-location-shortest : (k : Kind) (v : Mu (EndsV k)) (t : Location k) → locationCanon k .canon v ≡ some t → ShortestLocation k (printLocation k t) v
+pub location-shortest : (k : Kind) (v : Mu (EndsV k)) (t : Location k) → locationCanon k .canon v ≡ some t → ShortestLocation k (printLocation k t) v
 location-shortest k v t e =
     let b = canon-some (locationLang k) (locationCanon k) v t e in
     let r = b .reads in

@@ -33,7 +33,7 @@ use Rattle.lang.specs.MuLang.{parseMu}
 use Rattle.lang.specs.BothLang.{parseBoth}
 use Rattle.lang.specs.IntervalLang.{parseInterval}
 use Rattle.location.specs.Parse.{onDigits, parseMark, parseOffset, parseBased, parseUnstarred, parseGenomic, parseResidual}
-use Rattle.na_edits.specs.Alphabet.{Alphabet, nucleotides}
+use Rattle.na_edits.specs.Alphabet.{alphabets}
 use Rattle.na_edits.specs.Choice.{onSome}
 use Rattle.na_edits.specs.Parse.{parseIdent, parseSubst, inserted, afterDelNum, afterDel, afterInv, parseDel, parseIns, parseDup, parseInv, parseNaEdit}
 use Rattle.protein_edits.specs.Canon.{canonTerminal}
@@ -48,9 +48,6 @@ use Rattle.promise.specs.Outcome.{Outcome.refused, limit}
 use Rattle.promise.specs.Reading.{Reads, Reads.tooLong, Reads.notInGrammar, Reads.doesNotFit}
 use Rattle.promise.specs.Writing.{ReadsAsValue, ShortestText}
 use Rattle.canon.specs.TextCanon.{canonText, reads-canon, text-none}
-
-abbrev alphabets : (k : Kind) → Alphabet (allLetters k)
-alphabets k = nucleotides
 
 -- ---- what a row says
 -- the value is a location and an edit, or a protein body without location, and this is its shortest text; or the refusal's number and place

@@ -25,7 +25,7 @@ use Rattle.headers.specs.Kinds.{firstKind, parseKind}
 use Rattle.bodies.specs.ProteinBodies.{firstExact, parseOpened, parsePlain, parseOrdinary, parseProteinBody}
 use Rattle.bodies.specs.WholeText.{parseText, complete-text, sound-text}
 use Rattle.promise.specs.Reading.{TreeOf}
-use Rattle.reader.specs.Answer.{alphabets}
+use Rattle.na_edits.specs.Alphabet.{alphabets}
 
 abbrev pub parser : List ℕ → Option Text
 parser = parseText allLetters alphabets

@@ -17,7 +17,7 @@ use Rattle.promise.specs.Outcome.{Outcome.given, Outcome.refused, limit}
 use Rattle.promise.specs.Reading.{Reads}
 use Rattle.promise.specs.Writing.{ShortestText}
 use Rattle.canon.specs.TextCanon.{canonText}
-use Rattle.reader.specs.Answer.{alphabets}
+use Rattle.na_edits.specs.Alphabet.{alphabets}
 use Rattle.lines.specs.Lines.{Held, Held.whole, Held.tooLong}
 
 unfoldable pub refusal : ℕ → ℕ → List ℕ

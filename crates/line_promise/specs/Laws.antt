@@ -26,7 +26,7 @@ use Rattle.promise.specs.Writing.{ReadsAsValue, ShortestText, Unsound, Unsound.
 use Rattle.inside.specs.Spans.{spans-in-text}
 use Rattle.inside.specs.Places.{place-in-text}
 use Rattle.canon.specs.TextCanon.{canonText, reads-canon, shortest-only}
-use Rattle.reader.specs.Answer.{alphabets}
+use Rattle.na_edits.specs.Alphabet.{alphabets}
 use Rattle.reader.specs.Unique.{reads-content}
 use Rattle.lines.specs.Lines.{Held, Held.whole, Held.tooLong, held}
 use Rattle.lines.specs.Laws.{held-fits, held-long}

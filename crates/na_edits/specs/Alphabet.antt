@@ -6,6 +6,8 @@ use mathlib.Core.Bool.{Bool, true, false}
 use Rattle.texts.specs.Tests.{never, clash}
 use Rattle.alphabet.specs.Letters.{letter, digit, nucleotide}
 use Rattle.alphabet.specs.Apart.{letter-no-digit, nucleotide-letter}
+use Rattle.record.specs.declared.variant.Kind.{Kind}
+use Rattle.grammar.specs.Texts.{allLetters}
 
 pub record Alphabet (na : ℕ → Bool) : Type 0 where
   pub letters : (b : ℕ) → na b ≡ true → letter b ≡ true
@@ -33,3 +35,7 @@ narrower na h = record {
 
 pub nucleotides : Alphabet nucleotide
 nucleotides = narrower nucleotide (λ b h. h)
+
+-- those of every kind
+abbrev pub alphabets : (k : Kind) → Alphabet (allLetters k)
+alphabets k = nucleotides

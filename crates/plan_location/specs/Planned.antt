@@ -156,7 +156,7 @@ module _ (s : List ℕ) where
   position-text Rna p = from-text Start (p .number) (p .offset)
 
 -- ---- locations: over whatever positions, with plans for both ends and what canon gives for them
-abbrev muOf : {A : Type 0} → Bool → A → Mu A
+abbrev pub muOf : {A : Type 0} → Bool → A → Mu A
 muOf true a = certain a
 muOf false a = uncertain a
 

@@ -152,7 +152,7 @@ fn same_bytes(a: &[u8], b: &[u8]) -> bool
     false
 }
 
-fn same_number(a: i32, b: i32) -> bool
+pub fn same_number(a: i32, b: i32) -> bool
     ensures { λ r. ⌜ r ≡ eqℤ a b ⌝ }
 {
     a == b
@@ -261,7 +261,7 @@ fn same_position(source: &[u8], kind: Kind, p: Position, q: Position) -> bool
 // ---- locations
 
 // In brackets where it is not certain.
-fn bracket(certain: bool, b: u8) -> Mark
+pub fn bracket(certain: bool, b: u8) -> Mark
     ensures { λ r. ⌜ r ≡ bracketMark certain b ⌝ }
 {
     if certain {

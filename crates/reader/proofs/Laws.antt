@@ -42,7 +42,8 @@ use Rattle.read_na_body.specs.declared.BodyRead.{BodyRead}
 use Rattle.read_na_body.specs.declared.BodyRead.the-variants as BR
 use Rattle.read_na_body.specs.Answer.{naAnswer, bodyAnswer, answer-Cds, answer-Genome, answer-Mt, answer-Tx, answer-Rna}
 use Rattle.reader.specs.declared.TextRead.the-variants.{Nothing, Found}
-use Rattle.reader.specs.Answer.{alphabets, textAnswer}
+use Rattle.na_edits.specs.Alphabet.{alphabets}
+use Rattle.reader.specs.Answer.{textAnswer}
 
 -- ---- the body of each kind
 abbrev NaSays : ℕ → List ℕ → BodyRead → Kind → Type 0

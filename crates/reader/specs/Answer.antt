@@ -1,18 +1,12 @@
 -- What the reader gives for the tree of a text: its record, and the faults of its numbers.
 use Prim.Native.Nat.{ℕ}
 use mathlib.Core.Option.{Option, none, some}
-use Rattle.record.specs.declared.variant.Kind.{Kind}
-use Rattle.grammar.specs.Texts.{Text, allLetters}
+use Rattle.grammar.specs.Texts.{Text}
 use Rattle.grammar.specs.Records.{recordAt}
 use Rattle.grammar.specs.Numbers.{numbersAt}
-use Rattle.na_edits.specs.Alphabet.{Alphabet, nucleotides}
 use Rattle.scan.specs.Faults.{faults}
 use Rattle.reader.specs.declared.TextRead.{TextRead}
 use Rattle.reader.specs.declared.TextRead.the-variants.{Nothing, Found}
-
--- the letters of every kind
-abbrev pub alphabets : (k : Kind) → Alphabet (allLetters k)
-alphabets k = nucleotides
 
 unfoldable pub textAnswer : Option Text → TextRead
 textAnswer none = Nothing

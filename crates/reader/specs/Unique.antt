@@ -13,7 +13,7 @@ use Rattle.promise.specs.Outcome.{Outcome.given, readOutcome}
 use Rattle.promise.specs.Reading.{Reads, Reads.accepted}
 use Rattle.promise.specs.Writing.{ReadsAsValue}
 use Rattle.promise.specs.Unique.{one-read-answer}
-use Rattle.reader.specs.Answer.{alphabets}
+use Rattle.na_edits.specs.Alphabet.{alphabets}
 
 -- the grammar is unambiguous
 pub one-tree : (x y : Text) → Wf allLetters x → Wf allLetters y → print x ≡ print y → x ≡ y

@@ -16,7 +16,8 @@ ghost use Rattle.bodies.specs.WholeText.{parseText};
 ghost use Rattle.promise.specs.Outcome.{readOutcome};
 ghost use Rattle.promise.specs.Reading.{Reads};
 ghost use Rattle.read_na_body.specs.Answer.{bodyAnswer};
-ghost use Rattle.reader.specs.Answer.{alphabets, textAnswer};
+ghost use Rattle.na_edits.specs.Alphabet.{alphabets};
+ghost use Rattle.reader.specs.Answer.{textAnswer};
 
 // A text of the grammar: its record, and what is wrong with its numbers.
 pub enum TextRead {

@@ -1,0 +1,84 @@
+-- The width of a location of any kind, and that it is the width of the record's location.
+use Prim.Native.Nat.{ℕ}
+use mathlib.Core.Path.{_≡_, refl, ap, _∙_}
+use mathlib.Core.Bool.{cond}
+use mathlib.Core.Option.{Option, none, some}
+use lib.IntN.{ℤ}
+use Rattle.record.specs.declared.variant.Kind.{Kind}
+use Rattle.record.specs.declared.variant.Kind.the-variants.{Cds, Genome, Mt, Tx, Prot, Rna}
+use Rattle.record.specs.declared.positions.GenomePos.{GenomePos}
+use Rattle.record.specs.declared.positions.GenomePos.the-variants as G
+use Rattle.record.specs.declared.positions.MtPos.{MtPos}
+use Rattle.record.specs.declared.positions.MtPos.the-variants as M
+use Rattle.record.specs.declared.positions.MuCdsInterval.the-variants as MuCds
+use Rattle.record.specs.declared.positions.MuGenomeInterval.the-variants as MuGenome
+use Rattle.record.specs.declared.positions.MuMtInterval.the-variants as MuMt
+use Rattle.record.specs.declared.positions.MuTxInterval.the-variants as MuTx
+use Rattle.record.specs.declared.positions.MuRnaInterval.the-variants as MuRna
+use Rattle.record.specs.declared.positions.MuProtInterval.the-variants as MuProt
+use Rattle.grammar.specs.Records.{MuIntervalR}
+use Rattle.promise.specs.Width.{between, unshifted, anchored, genomeNumber, mtNumber, muCdsWidth, muGenomeWidth, muMtWidth, muTxWidth, muRnaWidth, muProtWidth}
+use Rattle.read_location.specs.declared.Position.{Position}
+use Rattle.read_location.specs.declared.Location.{Location}
+use Rattle.record_location.specs.Locations.{anyPosition, anyLocation}
+use Rattle.body_width.specs.declared.BodyWidth.{BodyWidth}
+use Rattle.body_width.specs.declared.BodyWidth.the-variants.{NoWidth, Width}
+use Rattle.body_width.specs.declared.EndNumber.{EndNumber}
+use Rattle.body_width.specs.declared.EndNumber.the-variants.{NoNumber, Number}
+
+abbrev pub widthGiven : BodyWidth → Option ℕ
+widthGiven NoWidth = none
+widthGiven (Width n) = some n
+
+abbrev pub numberGiven : EndNumber → Option ℤ
+numberGiven NoNumber = none
+numberGiven (Number z) = some z
+
+-- the number of an end that is known and has no offset
+abbrev pub endNumber : Position → Option ℤ
+endNumber p = cond (p .unknown) none (unshifted (p .number) (p .offset))
+
+abbrev widthFromTo : Position → Position → Option ℕ
+widthFromTo p q = anchored (p .«cds_from») (q .«cds_from») (between (endNumber p) (endNumber q))
+
+abbrev pub locationWidth : Location → Option ℕ
+locationWidth l = widthFromTo (l .start) (l .end)
+
+-- ---- the record's
+
+abbrev pub kindWidth : (k : Kind) → MuIntervalR k → Option ℕ
+kindWidth Cds l = muCdsWidth l
+kindWidth Genome l = muGenomeWidth l
+kindWidth Mt l = muMtWidth l
+kindWidth Tx l = muTxWidth l
+kindWidth Prot l = muProtWidth l
+kindWidth Rna l = muRnaWidth l
+
+genome-width : (a b : GenomePos) → widthFromTo (anyPosition Genome a) (anyPosition Genome b) ≡ between (genomeNumber a) (genomeNumber b)
+genome-width G.Unknown G.Unknown = refl
+genome-width G.Unknown (G.At n) = refl
+genome-width (G.At m) G.Unknown = refl
+genome-width (G.At m) (G.At n) = refl
+
+mt-width : (a b : MtPos) → widthFromTo (anyPosition Mt a) (anyPosition Mt b) ≡ between (mtNumber a) (mtNumber b)
+mt-width M.Unknown M.Unknown = refl
+mt-width M.Unknown (M.At n) = refl
+mt-width (M.At m) M.Unknown = refl
+mt-width (M.At m) (M.At n) = refl
+
+any-width : (k : Kind) (l : MuIntervalR k) → locationWidth (anyLocation k l) ≡ kindWidth k l
+any-width Cds (MuCds.Certain i) = refl
+any-width Cds (MuCds.Uncertain i) = refl
+any-width Genome (MuGenome.Certain i) = genome-width (i .start) (i .end)
+any-width Genome (MuGenome.Uncertain i) = genome-width (i .start) (i .end)
+any-width Mt (MuMt.Certain i) = mt-width (i .start) (i .end)
+any-width Mt (MuMt.Uncertain i) = mt-width (i .start) (i .end)
+any-width Tx (MuTx.Certain i) = refl
+any-width Tx (MuTx.Uncertain i) = refl
+any-width Prot (MuProt.Certain i) = refl
+any-width Prot (MuProt.Uncertain i) = refl
+any-width Rna (MuRna.Certain i) = refl
+any-width Rna (MuRna.Uncertain i) = refl
+
+pub measured : (k : Kind) (l : MuIntervalR k) {o : Option ℕ} {any : Location} → o ≡ locationWidth any → any ≡ anyLocation k l → o ≡ kindWidth k l
+measured k l p q = p ∙ ap locationWidth q ∙ any-width k l

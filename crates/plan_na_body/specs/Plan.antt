@@ -1,0 +1,43 @@
+-- What is to be written for a nucleotide body, where it has a text.
+use Prim.Native.Nat.{ℕ}
+use Prim.Native.Char.{code}
+use mathlib.Core.List.{List}
+use mathlib.Core.Bool.{Bool, true, false, cond}
+use Rattle.record.specs.declared.variant.Kind.{Kind}
+use Rattle.record.specs.declared.edits.NaEdit.{NaEdit}
+use Rattle.record.specs.declared.edits.MuNaEdit.{MuNaEdit}
+use Rattle.record.specs.declared.edits.MuNaEdit.the-variants as MuNa
+use Rattle.read_location.specs.declared.Location.{Location}
+use Rattle.emit.specs.declared.Place.{Place}
+use Rattle.emit.specs.declared.Row.{Row}
+use Rattle.rows.specs.declared.RowPlan.{RowPlan}
+use Rattle.rows.specs.declared.RowPlan.the-variants as Rows
+use Rattle.draft.specs.declared.Body.{Body}
+use Rattle.plan_location.specs.declared.PlacePlan.{PlacePlan}
+use Rattle.plan_location.specs.declared.PlacePlan.the-variants as Places
+use Rattle.plan_location.specs.Plan.{bracketMark, planLocation}
+use Rattle.plan_na_edit.specs.Plan.{planNaEdit, noRefRow}
+use Rattle.plan_na_body.specs.declared.BodyPlan.{BodyPlan}
+use Rattle.plan_na_body.specs.declared.BodyPlan.the-variants.{NoText, Text}
+
+-- an edit in brackets where it is not certain
+abbrev pub besideBody : Place → Bool → Row → Body
+besideBody p isCertain row = record { place = p; opening = bracketMark isCertain (code "("); row = row; closing = bracketMark isCertain (code ")") }
+
+abbrev pub joinedPlan : Bool → PlacePlan → RowPlan → BodyPlan
+joinedPlan isCertain (Places.Text p) (Rows.Text row) = Text (besideBody p isCertain row)
+joinedPlan isCertain (Places.Text p) Rows.NoText = NoText
+joinedPlan isCertain Places.NoText row = NoText
+
+-- another row for an edit that has a text
+abbrev pub replacedRow : RowPlan → Row → RowPlan
+replacedRow Rows.NoText row = Rows.NoText
+replacedRow (Rows.Text planned) row = Rows.Text row
+
+module _ (s : List ℕ) (isShortest : Bool) where
+  unfoldable pub naRow : NaEdit → RowPlan
+  naRow e = cond isShortest (planNaEdit s e) (replacedRow (planNaEdit s e) (noRefRow s e))
+
+  abbrev pub planNaBody : Kind → Location → MuNaEdit → BodyPlan
+  planNaBody k l (MuNa.Certain e) = joinedPlan true (planLocation s k l) (naRow e)
+  planNaBody k l (MuNa.Uncertain e) = joinedPlan false (planLocation s k l) (naRow e)

@@ -1,0 +1,72 @@
+// What is to be written for a nucleotide body: its location, then its edit, which stands in brackets where it is not certain.
+use draft::Body;
+use emit::Place;
+use emit::Row;
+use plan_location::PlacePlan;
+use read_location::Location;
+use record::edits::MuNaEdit;
+use record::edits::NaEdit;
+use record::variant::Kind;
+use rows::RowPlan;
+ghost use mathlib.Core.Path.{_≡_};
+ghost use Rattle.plan_na_body.specs.Plan.{besideBody, joinedPlan, replacedRow, naRow, planNaBody};
+
+// A body that is to be written, where it has a text.
+pub enum BodyPlan {
+    NoText,
+    Text(Body),
+}
+
+fn beside(place: Place, certain: bool, row: Row) -> Body
+    ensures { λ r. ⌜ r ≡ besideBody place certain row ⌝ }
+{
+    Body {
+        place,
+        opening: plan_location::bracket(certain, b'('),
+        row,
+        closing: plan_location::bracket(certain, b')'),
+    }
+}
+
+fn joined(certain: bool, place: PlacePlan, row: RowPlan) -> BodyPlan
+    ensures { λ r. ⌜ r ≡ joinedPlan certain place row ⌝ }
+{
+    let PlacePlan::Text(p) = place else {
+        return BodyPlan::NoText;
+    };
+    let RowPlan::Text(e) = row else {
+        return BodyPlan::NoText;
+    };
+    BodyPlan::Text(beside(p, certain, e))
+}
+
+// Another row for an edit that has a text.
+fn replaced(planned: RowPlan, row: Row) -> RowPlan
+    ensures { λ r. ⌜ r ≡ replacedRow planned row ⌝ }
+{
+    match planned {
+        RowPlan::NoText => RowPlan::NoText,
+        RowPlan::Text(_) => RowPlan::Text(row),
+    }
+}
+
+// Shortest, or without the reference; an edit that has no text has none without the reference either.
+fn na_row(source: &[u8], shortest: bool, e: NaEdit) -> RowPlan
+    ensures { λ r. ⌜ r ≡ naRow (now (source .entry)) shortest e ⌝ }
+{
+    let planned = plan_na_edit::plan_na_edit(source, e);
+    if shortest {
+        return planned;
+    }
+    replaced(planned, plan_na_edit::no_ref(source, e))
+}
+
+pub fn plan_na_body(source: &[u8], shortest: bool, kind: Kind, l: Location, e: MuNaEdit) -> BodyPlan
+    ensures { λ r. ⌜ r ≡ planNaBody (now (source .entry)) shortest kind l e ⌝ }
+{
+    let place = plan_location::plan_location(source, kind, l);
+    match e {
+        MuNaEdit::Certain(a) => joined(true, place, na_row(source, shortest, a)),
+        MuNaEdit::Uncertain(a) => joined(false, place, na_row(source, shortest, a)),
+    }
+}

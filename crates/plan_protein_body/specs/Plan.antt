@@ -1,0 +1,99 @@
+-- What is to be written for a protein body, where it has a text.
+use Prim.Native.Nat.{ℕ}
+use Prim.Native.Char.{code}
+use mathlib.Core.List.{List}
+use mathlib.Core.Bool.{Bool, true, false, cond, not, _&&_, _||_}
+use lib.IntN.{pos}
+use Rattle.texts.specs.Ascii.{ascii}
+use Rattle.texts.specs.Words.{same}
+use Rattle.record.specs.declared.spans.Span.{Span}
+use Rattle.record.specs.declared.variant.Kind.the-variants.{Prot}
+use Rattle.record.specs.declared.edits.ProteinEdit.{ProteinEdit}
+use Rattle.record.specs.declared.edits.MuProteinEdit.{MuProteinEdit}
+use Rattle.record.specs.declared.edits.MuProteinEdit.the-variants as MuPr
+use Rattle.record.specs.declared.variant.ProtLocEdit.{ProtLocEdit}
+use Rattle.record.specs.declared.variant.ProtLocEdit.the-variants as Bodies
+use Rattle.grammar.specs.Spans.{part}
+use Rattle.grammar.specs.Contents.{proteinEditContent}
+use Rattle.location.specs.Equal.{eqℤ}
+use Rattle.canon.specs.ProteinBodyCanon.{isUnknown}
+use Rattle.read_location.specs.declared.Position.{Position}
+use Rattle.read_location.specs.declared.Location.{Location}
+use Rattle.record_location.specs.Locations.{anyLocation}
+use Rattle.emit.specs.Texts.{noEnd}
+use Rattle.emit.specs.declared.Word.{Word}
+use Rattle.emit.specs.declared.Word.the-variants.{Equal, Question, Met1, NoProtein, NoProteinUncertain, NoChangeUncertain}
+use Rattle.emit.specs.declared.Mark.the-variants.{Nothing, Byte}
+use Rattle.emit.specs.declared.Amount.the-variants.{Absent, Count}
+use Rattle.emit.specs.declared.End.{End}
+use Rattle.emit.specs.declared.Place.{Place}
+use Rattle.emit.specs.declared.Row.{Row}
+use Rattle.rows.specs.Rows.{wordAlone}
+use Rattle.rows.specs.declared.RowPlan.{RowPlan}
+use Rattle.rows.specs.declared.RowPlan.the-variants as Rows
+use Rattle.draft.specs.declared.Body.{Body}
+use Rattle.plan_location.specs.declared.PlacePlan.{PlacePlan}
+use Rattle.plan_location.specs.declared.PlacePlan.the-variants as Places
+use Rattle.plan_location.specs.Plan.{bracketMark, planLocation}
+use Rattle.plan_protein_edit.specs.Plan.{planProteinEdit}
+use Rattle.plan_na_body.specs.declared.BodyPlan.{BodyPlan}
+use Rattle.plan_na_body.specs.declared.BodyPlan.the-variants.{NoText, Text}
+
+-- ---- places
+abbrev pub placeAt : End → Place
+placeAt e = record { opening = Nothing; start = e; joint = Nothing; end = noEnd; closing = Nothing }
+
+abbrev pub met01Place : Span → Place
+met01Place aa = placeAt (record { residue = aa; mark = Byte (code "0"); number = Count 1; sign = Nothing; offset = Absent })
+
+-- ---- location and edit, in one pair of brackets where both are uncertain
+abbrev pub bodyOf : Bool → Bool → Place → Row → Body
+bodyOf isLocated isCertain p row = record {
+  place = record { opening = bracketMark isLocated (code "("); start = p .start; joint = p .joint; end = p .end; closing = bracketMark (isLocated || not isCertain) (code ")") };
+  opening = bracketMark (isCertain || not isLocated) (code "(");
+  row = row;
+  closing = bracketMark isCertain (code ")");
+}
+
+abbrev pub togetherPlan : Bool → Bool → PlacePlan → RowPlan → BodyPlan
+togetherPlan isLocated isCertain (Places.Text p) (Rows.Text row) = Text (bodyOf isLocated isCertain p row)
+togetherPlan isLocated isCertain (Places.Text p) Rows.NoText = NoText
+togetherPlan isLocated isCertain Places.NoText row = NoText
+
+-- both certain, or both uncertain
+abbrev pub isAlike : Bool → Bool → Bool
+isAlike isLocated isCertain = cond isLocated isCertain (not isCertain)
+
+-- a word and nothing else
+abbrev pub wordBody : Word → BodyPlan
+wordBody word = Text (record { place = placeAt noEnd; opening = Nothing; row = wordAlone word; closing = Nothing })
+
+module _ (s : List ℕ) where
+  -- ---- the Met-1 `?` record
+  abbrev pub isMetOne : Position → Bool
+  isMetOne p = same (part s (p .aa)) (ascii "Met") && eqℤ (p .number) (pos 1)
+
+  abbrev pub isUnknownEdit : ProteinEdit → Bool
+  isUnknownEdit e = isUnknown (proteinEditContent s e)
+
+  unfoldable pub isBarred : Location → Bool → ProteinEdit → Bool
+  isBarred l isCertain e = isAlike (l .certain) isCertain && (isMetOne (l .start) && (isMetOne (l .end) && isUnknownEdit e))
+
+  unfoldable pub planOrdinary : Location → Bool → ProteinEdit → BodyPlan
+  planOrdinary l isCertain e =
+      cond (isBarred l isCertain e)
+      (Text (bodyOf (l .certain) isCertain (met01Place (l .start .aa)) (wordAlone Question)))
+      (togetherPlan (l .certain) isCertain (planLocation s Prot l) (planProteinEdit s e))
+
+  abbrev pub planMuProtein : Location → MuProteinEdit → BodyPlan
+  planMuProtein l (MuPr.Certain e) = planOrdinary l true e
+  planMuProtein l (MuPr.Uncertain e) = planOrdinary l false e
+
+  abbrev pub planProteinBody : ProtLocEdit → BodyPlan
+  planProteinBody (Bodies.Ordinary l e) = planMuProtein (anyLocation Prot l) e
+  planProteinBody Bodies.NoChange = wordBody Equal
+  planProteinBody Bodies.NoChangeUncertain = wordBody NoChangeUncertain
+  planProteinBody Bodies.NoProtein = wordBody NoProtein
+  planProteinBody Bodies.NoProteinUncertain = wordBody NoProteinUncertain
+  planProteinBody Bodies.Unknown = wordBody Question
+  planProteinBody Bodies.InitiationUncertain = wordBody Met1

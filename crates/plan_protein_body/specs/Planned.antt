@@ -1,0 +1,192 @@
+-- The text of a planned protein body is that of its canonical tree; and there is none where it has none.
+use Prim.Native.Nat.{ℕ}
+use Prim.Native.Char.{code}
+use mathlib.Core.Path.{_≡_, refl, sym, ap, _∙_}
+use mathlib.Core.List.{List, [], _∷_, _++_, append-nil, append-assoc}
+use mathlib.Core.Option.{Option, none, some}
+use mathlib.Core.Bool.{Bool, true, false, cond, _&&_}
+use Rattle.texts.specs.Ascii.{ascii}
+use Rattle.texts.specs.Tests.{none-some, and-true}
+use Rattle.texts.specs.Words.{same, same-true}
+use Rattle.number.specs.Digits.{decUpTo}
+use Rattle.record.specs.declared.spans.Span.{Span}
+use Rattle.record.specs.declared.variant.Kind.the-variants.{Prot}
+use Rattle.record.specs.declared.edits.ProteinEdit.{ProteinEdit}
+use Rattle.record.specs.declared.edits.MuProteinEdit.the-variants as MuPr
+use Rattle.record.specs.declared.positions.MuProtInterval.the-variants as MuProt
+use Rattle.record.specs.declared.variant.ProtLocEdit.{ProtLocEdit}
+use Rattle.record.specs.declared.variant.ProtLocEdit.the-variants as Bodies
+use Rattle.grammar.specs.Spans.{part}
+use Rattle.grammar.specs.Shapes.{Mu, Mu.certain, Mu.uncertain, Both, Both.both}
+use Rattle.grammar.specs.ProteinEdits as Tree
+use Rattle.grammar.specs.ProteinEdits.{ProteinEdit.substUnknown, printProteinEdit}
+use Rattle.grammar.specs.Bodies.{Ends, printEnds, printLocation, printProteinBody}
+use Rattle.grammar.specs.Values.{ProtPosV, ProtPosV.protPosV, EndsV, ProteinEditV}
+use Rattle.grammar.specs.Contents.{proteinEditContent, protBodyContent}
+use Rattle.lang.specs.Canon.{mapO, bothO}
+use Rattle.location.specs.Canonical.{endsCanon}
+use Rattle.protein_edits.specs.Canonical.{proteinEditCanon}
+use Rattle.canon.specs.ProteinBodyCanon.{barred, isMet1, inner, joined, met01, canonOrdinary, canonProteinBody}
+use Rattle.read_location.specs.declared.Position.{Position}
+use Rattle.read_location.specs.declared.Location.{Location}
+use Rattle.record_location.specs.Locations.{anyLocation}
+use Rattle.emit.specs.Texts.{markText, endText, placeText, rowText}
+use Rattle.emit.specs.Laws.{no-end}
+use Rattle.emit.specs.declared.Word.{Word}
+use Rattle.emit.specs.declared.Word.the-variants.{Equal, Question, Met1, NoProtein, NoProteinUncertain, NoChangeUncertain}
+use Rattle.emit.specs.declared.Mark.{Mark}
+use Rattle.emit.specs.declared.Place.{Place}
+use Rattle.emit.specs.declared.Row.{Row}
+use Rattle.emit.specs.Words.{wordText}
+use Rattle.rows.specs.Rows as R
+use Rattle.rows.specs.Rows.{wordAlone}
+use Rattle.rows.specs.Laws.{word-alone}
+use Rattle.rows.specs.declared.RowPlan.{RowPlan}
+use Rattle.rows.specs.declared.RowPlan.the-variants as Rows
+use Rattle.draft.specs.Texts.{bodyText}
+use Rattle.plan_location.specs.declared.EndPlan.{EndPlan}
+use Rattle.plan_location.specs.declared.EndPlan.the-variants as EndPlans
+use Rattle.plan_location.specs.declared.PlacePlan.{PlacePlan}
+use Rattle.plan_location.specs.declared.PlacePlan.the-variants as Places
+use Rattle.plan_location.specs.Plan.{placePlan, samePosition, positionPlan, planLocation}
+use Rattle.plan_location.specs.Planned as L
+use Rattle.plan_location.specs.Planned.{muOf}
+use Rattle.plan_protein_edit.specs.Plan.{planProteinEdit}
+use Rattle.plan_protein_edit.specs.Planned as E
+use Rattle.plan_na_body.specs.Planned.{planText}
+use Rattle.plan_protein_body.specs.Plan.{met01Place, bodyOf, togetherPlan, isAlike, wordBody, isMetOne, isUnknownEdit, isBarred, planOrdinary, planProteinBody}
+
+-- ---- lists: the parts of a body one behind the other
+flat : (x y z r : List ℕ) → (x ++ (y ++ (z ++ []))) ++ (r ++ []) ≡ (x ++ (y ++ z)) ++ r
+flat x y z r = simp (append-nil, append-assoc) refl
+
+flat-edit : (x y z r : List ℕ) → (x ++ (y ++ (z ++ []))) ++ (ascii "(" ++ (r ++ ascii ")")) ≡ (x ++ (y ++ z)) ++ (ascii "(" ++ (r ++ ascii ")"))
+flat-edit x y z r = simp (append-nil, append-assoc) refl
+
+flat-place : (x y z r : List ℕ) → (ascii "(" ++ (x ++ (y ++ (z ++ ascii ")")))) ++ (r ++ []) ≡ (ascii "(" ++ ((x ++ (y ++ z)) ++ ascii ")")) ++ r
+flat-place x y z r = simp (append-nil, append-assoc) refl
+
+flat-both : (x y z r : List ℕ) → (ascii "(" ++ (x ++ (y ++ (z ++ [])))) ++ (r ++ ascii ")") ≡ ascii "(" ++ (((x ++ (y ++ z)) ++ r) ++ ascii ")")
+flat-both x y z r = simp (append-nil, append-assoc) refl
+
+module _ (s : List ℕ) where
+  -- ---- location and edit
+  abbrev bareText : Place → List ℕ
+  bareText p = endText s (p .start) ++ (markText (p .joint) ++ endText s (p .end))
+
+  body-text : (isLocated isCertain : Bool) (p : Place) (row : Row) (i : EndsV Prot) (v : ProteinEditV) (a : Ends Prot) (b : Tree.ProteinEdit) → bareText p ≡ printEnds Prot a → rowText s row ≡ printProteinEdit b
+      → bodyText s (bodyOf isLocated isCertain p row) ≡ printProteinBody (joined (muOf isLocated i) (muOf isCertain v) a b)
+  unfolding bodyText placeText
+  body-text true true p row i v a b e f = rw (← e, ← f) (flat (endText s (p .start)) (markText (p .joint)) (endText s (p .end)) (rowText s row))
+  body-text true false p row i v a b e f = rw (← e, ← f) (flat-edit (endText s (p .start)) (markText (p .joint)) (endText s (p .end)) (rowText s row))
+  body-text false true p row i v a b e f = rw (← e, ← f) (flat-place (endText s (p .start)) (markText (p .joint)) (endText s (p .end)) (rowText s row))
+  body-text false false p row i v a b e f = rw (← e, ← f) (flat-both (endText s (p .start)) (markText (p .joint)) (endText s (p .end)) (rowText s row))
+
+  -- ---- the ends of a location, without its brackets
+  abbrev planBare : PlacePlan → Option (List ℕ)
+  planBare Places.NoText = none
+  planBare (Places.Text p) = some (bareText p)
+
+  bare-place : (isCertain : Bool) (x : EndPlan) (m : Mark) (y : EndPlan) → planBare (placePlan isCertain x m y) ≡ L.planText s (placePlan true x m y)
+  unfolding placeText
+  bare-place isCertain EndPlans.NoText m y = refl
+  bare-place isCertain (EndPlans.Text e) m EndPlans.NoText = refl
+  bare-place isCertain (EndPlans.Text e) m (EndPlans.Text f) = rw (append-nil (endText s f))
+
+  abbrev surely : Location → Location
+  surely l = record { certain = true; start = l .start; end = l .end }
+
+  bare-certain : (l : Location) → planBare (planLocation s Prot l) ≡ L.planText s (planLocation s Prot (surely l))
+  unfolding planLocation
+  bare-certain l = go (samePosition s Prot (l .start) (l .end)) refl
+    where
+      go : (t : Bool) → samePosition s Prot (l .start) (l .end) ≡ t → planBare (planLocation s Prot l) ≡ L.planText s (planLocation s Prot (surely l))
+      go true e = rw (e, planLocation) (bare-place (l .certain) (positionPlan s Prot (l .start)) _ _)
+      go false e = rw (e, planLocation) (bare-place (l .certain) (positionPlan s Prot (l .start)) _ (positionPlan s Prot (l .end)))
+
+  abbrev residueAt : Position → ProtPosV
+  residueAt p = protPosV (part s (p .aa)) (p .number)
+
+  abbrev endsOf : Location → EndsV Prot
+  endsOf l = both (residueAt (l .start)) (residueAt (l .end))
+
+  without-brackets : (o : Option (Ends Prot)) → mapO (printLocation Prot) (mapO certain o) ≡ mapO (printEnds Prot) o
+  without-brackets none = refl
+  without-brackets (some a) = refl
+
+  bare-planned : (l : Location) → planBare (planLocation s Prot l) ≡ mapO (printEnds Prot) (endsCanon Prot .canon (endsOf l))
+  bare-planned l = bare-certain l ∙ L.planned s Prot (surely l) ∙ without-brackets (endsCanon Prot .canon (endsOf l))
+
+  together-text : (isLocated isCertain : Bool) (i : EndsV Prot) (v : ProteinEditV) (x : PlacePlan) (y : RowPlan) (o : Option (Ends Prot)) (u : Option Tree.ProteinEdit) → planBare x ≡ mapO (printEnds Prot) o → R.planText s y ≡ mapO printProteinEdit u
+      → planText s (togetherPlan isLocated isCertain x y) ≡ mapO printProteinBody (bothO (joined (muOf isLocated i) (muOf isCertain v)) o u)
+  together-text l c i v Places.NoText y none u e f = refl
+  together-text l c i v Places.NoText y (some a) u e f = absurd (none-some e)
+  together-text l c i v (Places.Text p) y none u e f = absurd (none-some (sym e))
+  together-text l c i v (Places.Text p) Rows.NoText (some a) none e f = refl
+  together-text l c i v (Places.Text p) Rows.NoText (some a) (some b) e f = absurd (none-some f)
+  together-text l c i v (Places.Text p) (Rows.Text row) (some a) none e f = absurd (none-some (sym f))
+  together-text l c i v (Places.Text p) (Rows.Text row) (some a) (some b) e f =
+      let g : bareText p ≡ printEnds Prot a = cc in
+      let h : rowText s row ≡ printProteinEdit b = cc in
+      ap some (body-text l c p row i v a b g h)
+
+  -- ---- the Met-1 `?` record
+  barred-is : (isLocated isCertain : Bool) (i : EndsV Prot) (v : ProteinEditV) → barred (muOf isLocated i) (muOf isCertain v) ≡ isAlike isLocated isCertain && isMet1 i v
+  barred-is true true i v = refl
+  barred-is true false i v = refl
+  barred-is false true i v = refl
+  barred-is false false i v = refl
+
+  inner-is : {A : Type 0} (isCertain : Bool) (a : A) → inner (muOf isCertain a) ≡ a
+  inner-is true a = refl
+  inner-is false a = refl
+
+  barred-met : (l : Location) (isCertain : Bool) (e : ProteinEdit) → barred (muOf (l .certain) (endsOf l)) (muOf isCertain (proteinEditContent s e)) ≡ isBarred s l isCertain e
+  unfolding isBarred
+  barred-met l t e = barred-is (l .certain) t (endsOf l) (proteinEditContent s e)
+
+  met01-text : (aa : Span) → part s aa ≡ ascii "Met" → bareText (met01Place aa) ≡ printEnds Prot met01
+  unfolding endText decUpTo
+  met01-text aa e = rw (no-end s, e)
+
+  met-residue : (l : Location) (isCertain : Bool) (e : ProteinEdit) → isBarred s l isCertain e ≡ true → part s (l .start .aa) ≡ ascii "Met"
+  unfolding isBarred
+  met-residue l t e h =
+      let a = and-true (isAlike (l .certain) t) (isMetOne s (l .start) && (isMetOne s (l .end) && isUnknownEdit s e)) h in
+      let b = and-true (isMetOne s (l .start)) (isMetOne s (l .end) && isUnknownEdit s e) (a .1) in
+      let c = and-true (same (part s (l .start .aa)) (ascii "Met")) _ (b .0) in
+      same-true (part s (l .start .aa)) (ascii "Met") (c .0)
+
+  ordinary-planned : (l : Location) (isCertain : Bool) (e : ProteinEdit)
+      → planText s (planOrdinary s l isCertain e) ≡ mapO printProteinBody (canonOrdinary (muOf (l .certain) (endsOf l)) (muOf isCertain (proteinEditContent s e)))
+  unfolding planOrdinary
+  ordinary-planned l t e = go (isBarred s l t e) refl
+    where
+      i : EndsV Prot
+      i = endsOf l
+
+      v : ProteinEditV
+      v = proteinEditContent s e
+
+      go : (b : Bool) → isBarred s l t e ≡ b → planText s (planOrdinary s l t e) ≡ mapO printProteinBody (canonOrdinary (muOf (l .certain) i) (muOf t v))
+      go true h = rw (h, planOrdinary, barred-met l t e ∙ h)
+          (ap some (body-text (l .certain) t (met01Place (l .start .aa)) (wordAlone Question) i v met01 substUnknown (met01-text (l .start .aa) (met-residue l t e h)) (word-alone s Question)))
+      go false h = rw (h, planOrdinary, barred-met l t e ∙ h, inner-is (l .certain) i, inner-is t v)
+          (together-text (l .certain) t i v (planLocation s Prot l) (planProteinEdit s e) (endsCanon Prot .canon i) (proteinEditCanon .canon v) (bare-planned l) (E.planned s e))
+
+  -- ---- bodies
+  word-body : (word : Word) → planText s (wordBody word) ≡ some (wordText word)
+  unfolding bodyText placeText
+  word-body word = rw (no-end s, word-alone s word, append-nil (wordText word))
+
+  pub planned-protein : (b : ProtLocEdit) → planText s (planProteinBody s b) ≡ mapO printProteinBody (canonProteinBody (protBodyContent s b))
+  planned-protein (Bodies.Ordinary (MuProt.Certain i) (MuPr.Certain e)) = ordinary-planned (anyLocation Prot (MuProt.Certain i)) true e
+  planned-protein (Bodies.Ordinary (MuProt.Certain i) (MuPr.Uncertain e)) = ordinary-planned (anyLocation Prot (MuProt.Certain i)) false e
+  planned-protein (Bodies.Ordinary (MuProt.Uncertain i) (MuPr.Certain e)) = ordinary-planned (anyLocation Prot (MuProt.Uncertain i)) true e
+  planned-protein (Bodies.Ordinary (MuProt.Uncertain i) (MuPr.Uncertain e)) = ordinary-planned (anyLocation Prot (MuProt.Uncertain i)) false e
+  planned-protein Bodies.NoChange = word-body Equal
+  planned-protein Bodies.NoChangeUncertain = word-body NoChangeUncertain
+  planned-protein Bodies.NoProtein = word-body NoProtein
+  planned-protein Bodies.NoProteinUncertain = word-body NoProteinUncertain
+  planned-protein Bodies.Unknown = word-body Question
+  planned-protein Bodies.InitiationUncertain = word-body Met1

@@ -1,0 +1,225 @@
+// What is to be written for a protein body: location and edit, in one pair of brackets where both are uncertain; or a word alone.
+use draft::Body;
+use emit::Amount;
+use emit::End;
+use emit::Mark;
+use emit::Place;
+use emit::Row;
+use emit::Word;
+use plan_location::PlacePlan;
+use plan_na_body::BodyPlan;
+use read_location::Location;
+use read_location::Position;
+use record::edits::MuProteinEdit;
+use record::edits::ProteinEdit;
+use record::spans::Span;
+use record::variant::Kind;
+use record::variant::ProtLocEdit;
+use rows::RowPlan;
+ghost use mathlib.Core.Path.{_≡_};
+ghost use mathlib.Core.Bool.{_||_, not};
+ghost use Rattle.texts.specs.Words.{same};
+ghost use Rattle.grammar.specs.Spans.{part};
+ghost use Rattle.emit.specs.Texts.{noEnd};
+ghost use Rattle.plan_protein_body.specs.Plan.{isMetOne, isUnknownEdit, isAlike, isBarred, placeAt, met01Place, bodyOf, togetherPlan, planOrdinary, planMuProtein, wordBody, planProteinBody};
+
+// ---- the Met-1 `?` record: its composed text would be `Met1?` or `(Met1?)`, which read as another
+
+// The part is this word.
+fn spells(source: &[u8], p: Span, word: &[u8]) -> bool
+    ensures { λ r. ⌜ r ≡ same (part (now (source .entry)) p) (now (word .entry)) ⌝ }
+{
+    rows::same_bytes(parts::part_of(source, p), word)
+}
+
+fn is_met_one(source: &[u8], p: Position) -> bool
+    ensures { λ r. ⌜ r ≡ isMetOne (now (source .entry)) p ⌝ }
+{
+    let aa = p.aa;
+    if spells(source, aa, b"Met") {
+        return plan_location::same_number(p.number, 1);
+    }
+    false
+}
+
+fn is_unknown(source: &[u8], e: ProteinEdit) -> bool
+    ensures { λ r. ⌜ r ≡ isUnknownEdit (now (source .entry)) e ⌝ }
+{
+    match e {
+        ProteinEdit::Fs(_, _, _) => false,
+        ProteinEdit::Ext(_, _, _) => false,
+        ProteinEdit::Subst(p) => spells(source, p, b"?"),
+        ProteinEdit::DelIns(_) => false,
+        ProteinEdit::Ins(_) => false,
+        ProteinEdit::Del => false,
+        ProteinEdit::Dup => false,
+        ProteinEdit::Ident => false,
+    }
+}
+
+// Both certain, or both uncertain.
+fn is_alike(located: bool, certain: bool) -> bool
+    ensures { λ r. ⌜ r ≡ isAlike located certain ⌝ }
+{
+    if located {
+        return certain;
+    }
+    !certain
+}
+
+fn is_barred(source: &[u8], l: Location, certain: bool, e: ProteinEdit) -> bool
+    ensures { λ r. ⌜ r ≡ isBarred (now (source .entry)) l certain e ⌝ }
+{
+    let start = l.start;
+    let end = l.end;
+    if !is_alike(l.certain, certain) {
+        return false;
+    }
+    if !is_met_one(source, start) {
+        return false;
+    }
+    if !is_met_one(source, end) {
+        return false;
+    }
+    is_unknown(source, e)
+}
+
+// ---- places
+
+fn no_end() -> End
+    ensures { λ r. ⌜ r ≡ noEnd ⌝ }
+{
+    End {
+        residue: rows::no_span(),
+        mark: Mark::Nothing,
+        number: Amount::Absent,
+        sign: Mark::Nothing,
+        offset: Amount::Absent,
+    }
+}
+
+fn place_at(start: End) -> Place
+    ensures { λ r. ⌜ r ≡ placeAt start ⌝ }
+{
+    Place {
+        opening: Mark::Nothing,
+        start,
+        joint: Mark::Nothing,
+        end: no_end(),
+        closing: Mark::Nothing,
+    }
+}
+
+// `Met01`
+fn met01(aa: Span) -> Place
+    ensures { λ r. ⌜ r ≡ met01Place aa ⌝ }
+{
+    place_at(End {
+        residue: aa,
+        mark: Mark::Byte(b'0'),
+        number: Amount::Count(1),
+        sign: Mark::Nothing,
+        offset: Amount::Absent,
+    })
+}
+
+// ---- location and edit
+
+fn or_not(a: bool, b: bool) -> bool
+    ensures { λ r. ⌜ r ≡ a || not b ⌝ }
+{
+    if a {
+        return true;
+    }
+    !b
+}
+
+// In one pair of brackets where both are uncertain.
+fn body_of(located: bool, certain: bool, place: Place, row: Row) -> Body
+    ensures { λ r. ⌜ r ≡ bodyOf located certain place row ⌝ }
+{
+    let start = place.start;
+    let joint = place.joint;
+    let end = place.end;
+    Body {
+        place: Place {
+            opening: plan_location::bracket(located, b'('),
+            start,
+            joint,
+            end,
+            closing: plan_location::bracket(or_not(located, certain), b')'),
+        },
+        opening: plan_location::bracket(or_not(certain, located), b'('),
+        row,
+        closing: plan_location::bracket(certain, b')'),
+    }
+}
+
+fn together(located: bool, certain: bool, place: PlacePlan, row: RowPlan) -> BodyPlan
+    ensures { λ r. ⌜ r ≡ togetherPlan located certain place row ⌝ }
+{
+    let PlacePlan::Text(p) = place else {
+        return BodyPlan::NoText;
+    };
+    let RowPlan::Text(e) = row else {
+        return BodyPlan::NoText;
+    };
+    BodyPlan::Text(body_of(located, certain, p, e))
+}
+
+fn plan_ordinary(source: &[u8], l: Location, certain: bool, e: ProteinEdit) -> BodyPlan
+    ensures { λ r. ⌜ r ≡ planOrdinary (now (source .entry)) l certain e ⌝ }
+{
+    if is_barred(source, l, certain, e) {
+        let start = l.start;
+        let aa = start.aa;
+        return BodyPlan::Text(body_of(
+            l.certain,
+            certain,
+            met01(aa),
+            rows::word_alone(Word::Question),
+        ));
+    }
+    together(
+        l.certain,
+        certain,
+        plan_location::plan_location(source, Kind::Prot, l),
+        plan_protein_edit::plan_protein_edit(source, e),
+    )
+}
+
+fn plan_mu(source: &[u8], l: Location, e: MuProteinEdit) -> BodyPlan
+    ensures { λ r. ⌜ r ≡ planMuProtein (now (source .entry)) l e ⌝ }
+{
+    match e {
+        MuProteinEdit::Certain(a) => plan_ordinary(source, l, true, a),
+        MuProteinEdit::Uncertain(a) => plan_ordinary(source, l, false, a),
+    }
+}
+
+// ---- bodies
+
+fn word_body(word: Word) -> BodyPlan
+    ensures { λ r. ⌜ r ≡ wordBody word ⌝ }
+{
+    BodyPlan::Text(Body {
+        place: place_at(no_end()),
+        opening: Mark::Nothing,
+        row: rows::word_alone(word),
+        closing: Mark::Nothing,
+    })
+}
+
+pub fn plan_protein_body(source: &[u8], b: ProtLocEdit) -> BodyPlan
+    ensures { λ r. ⌜ r ≡ planProteinBody (now (source .entry)) b ⌝ }
+{
+    match b {
+        ProtLocEdit::Ordinary(l, e) => plan_mu(source, record_location::of_prot(l), e),
+        ProtLocEdit::NoChange => word_body(Word::Equal),
+        ProtLocEdit::NoChangeUncertain => word_body(Word::NoChangeUncertain),
+        ProtLocEdit::NoProtein => word_body(Word::NoProtein),
+        ProtLocEdit::NoProteinUncertain => word_body(Word::NoProteinUncertain),
+        ProtLocEdit::Unknown => word_body(Word::Question),
+        ProtLocEdit::InitiationUncertain => word_body(Word::Met1),
+    }
+}

@@ -1,0 +1,62 @@
+-- What is to be written for a whole record, where it has a text.
+use Prim.Native.Nat.{ℕ}
+use Prim.Native.Char.{code}
+use mathlib.Core.List.{List}
+use mathlib.Core.Bool.{Bool, cond}
+use Rattle.record.specs.declared.spans.Span.{Span}
+use Rattle.record.specs.declared.spans.Part.{Part}
+use Rattle.record.specs.declared.spans.Part.the-variants.{Absent, Present}
+use Rattle.record.specs.declared.variant.Kind.{Kind}
+use Rattle.record.specs.declared.variant.Kind.the-variants.{Cds, Genome, Mt, Tx, Prot, Rna}
+use Rattle.record.specs.declared.variant.Header.{Header}
+use Rattle.record.specs.declared.variant.Body.{Body}
+use Rattle.record.specs.declared.variant.Body.the-variants as Bo
+use Rattle.record.specs.declared.variant.HgvsVariant.{HgvsVariant}
+use Rattle.grammar.specs.Contents.{headerContent}
+use Rattle.headers.specs.Canonical.{canonHeader}
+use Rattle.record_location.specs.Locations.{anyLocation}
+use Rattle.emit.specs.declared.Mark.the-variants.{Nothing, Byte}
+use Rattle.emit.specs.Texts.{noSpan}
+use Rattle.draft.specs.declared.Heading.{Heading}
+use Rattle.plan_header.specs.HeaderText.{isSome}
+use Rattle.plan_na_body.specs.declared.BodyPlan.{BodyPlan}
+use Rattle.plan_na_body.specs.declared.BodyPlan.the-variants as Bodies
+use Rattle.plan_na_body.specs.Plan.{planNaBody}
+use Rattle.plan_protein_body.specs.Plan.{planProteinBody}
+use Rattle.plan_text.specs.declared.TextPlan.{TextPlan}
+use Rattle.plan_text.specs.declared.TextPlan.the-variants.{NoText, Text}
+
+abbrev pub kindOf : Body → Kind
+kindOf (Bo.Cds b) = Cds
+kindOf (Bo.Genome b) = Genome
+kindOf (Bo.Mt b) = Mt
+kindOf (Bo.Tx b) = Tx
+kindOf (Bo.Prot b) = Prot
+kindOf (Bo.Rna b) = Rna
+
+-- the gene in brackets, where there is one
+abbrev pub headingWith : Span → Part → Kind → Heading
+headingWith a Absent k = record { accession = a; opening = Nothing; gene = noSpan; closing = Nothing; kind = k }
+headingWith a (Present g) k = record { accession = a; opening = Byte (code "("); gene = g; closing = Byte (code ")"); kind = k }
+
+abbrev pub headingOf : Header → Kind → Heading
+headingOf h k = headingWith (h .accession) (h .«gene_symbol») k
+
+abbrev pub draftedPlan : Heading → BodyPlan → TextPlan
+draftedPlan h Bodies.NoText = NoText
+draftedPlan h (Bodies.Text b) = Text (record { heading = h; body = b })
+
+module _ (s : List ℕ) (isShortest : Bool) where
+  abbrev pub planBody : Body → BodyPlan
+  planBody (Bo.Cds b) = planNaBody s isShortest Cds (anyLocation Cds (b .loc)) (b .edit)
+  planBody (Bo.Genome b) = planNaBody s isShortest Genome (anyLocation Genome (b .loc)) (b .edit)
+  planBody (Bo.Mt b) = planNaBody s isShortest Mt (anyLocation Mt (b .loc)) (b .edit)
+  planBody (Bo.Tx b) = planNaBody s isShortest Tx (anyLocation Tx (b .loc)) (b .edit)
+  planBody (Bo.Prot b) = planProteinBody s b
+  planBody (Bo.Rna b) = planNaBody s isShortest Rna (anyLocation Rna (b .loc)) (b .edit)
+
+  unfoldable pub textPlan : HgvsVariant → TextPlan
+  textPlan v =
+      cond (isSome (canonHeader (headerContent s (v .header))))
+      (draftedPlan (headingOf (v .header) (kindOf (v .body))) (planBody (v .body)))
+      NoText

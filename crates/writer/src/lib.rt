@@ -1,0 +1,38 @@
+// Writing a record into lent room: its shortest text, or the one without the reference.
+use plan_text::TextPlan;
+use record::answers::WriteAnswer;
+use record::variant::HgvsVariant;
+ghost use Rattle.grammar.specs.Texts.{allLetters};
+ghost use Rattle.promise.specs.Outcome.{writeOutcome};
+ghost use Rattle.promise.specs.Writing.{Writes, ToWrite};
+ghost use Rattle.promise.specs.NoRef.{NoRefText};
+ghost use Rattle.canon.specs.Wording.{Wanted};
+
+fn write_wanted(source: &[u8], v: HgvsVariant, output: &mut [u8], shortest: bool) -> WriteAnswer
+    ensures { λ r. ⌜ Writes allLetters (Wanted allLetters shortest) (now (source .entry)) v (now (output .entry)) (writeOutcome r) (now (output .exit)) ⌝ }
+{
+    if 4096 < source.len() {
+        return WriteAnswer::TooLong;
+    }
+    if !parts::spans_inside(source.len(), v) {
+        return WriteAnswer::BadSpan;
+    }
+    let TextPlan::Text(d) = plan_text::plan_text(source, shortest, v) else {
+        return WriteAnswer::NoText;
+    };
+    draft::write_draft(source, d, output)
+}
+
+// The shortest text, first in byte order among equals, at the front of the output; or the refusal's number, and nothing written.
+pub fn write(source: &[u8], v: HgvsVariant, output: &mut [u8]) -> WriteAnswer
+    ensures { λ r. ⌜ Writes allLetters (ToWrite allLetters) (now (source .entry)) v (now (output .entry)) (writeOutcome r) (now (output .exit)) ⌝ }
+{
+    write_wanted(source, v, output, true)
+}
+
+// Header, location and brackets as in shortest writing; the edit without the reference.
+pub fn write_noref(source: &[u8], v: HgvsVariant, output: &mut [u8]) -> WriteAnswer
+    ensures { λ r. ⌜ Writes allLetters (NoRefText allLetters) (now (source .entry)) v (now (output .entry)) (writeOutcome r) (now (output .exit)) ⌝ }
+{
+    write_wanted(source, v, output, false)
+}
