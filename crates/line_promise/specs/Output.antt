@@ -2,16 +2,17 @@
 use Prim.Native.Nat.{ℕ, _+_, _≤_}
 use mathlib.Core.Path.{_≡_, refl}
 use mathlib.Core.List.{List, [], _∷_, _++_, flatMap, flatten}
-use lib.ListN.{length}
+use native.Mathlib.Omega.{arith}
+use lib.ListN.{length, length-append}
 use borrow.Author.Tests.{le-leb}
 use Rattle.promise.specs.Outcome.{limit}
-use Rattle.lines.specs.Lines.{lineEnd, linesOf, held, output}
+use Rattle.lines.specs.Lines.{lineEnd, linesOf, Held, held, output}
 use Rattle.lines.specs.Taking.{noLine}
 use Rattle.lines.specs.Feeding.{written, Writes}
 use Rattle.lines.specs.Cuts.{writes-some, written-anyhow, writes-anyhow}
 use Rattle.lines.specs.Steps.{roomFor}
 use Rattle.line_promise.specs.Answer.{Answers, lineAnswer}
-use Rattle.line_promise.specs.Laws.{answers-only, line-answers}
+use Rattle.line_promise.specs.Laws.{answers-only, line-answers, answer-short}
 
 -- every line in turn, its answer and LF
 pub data AllAnswered : List (List ℕ) → List ℕ → Type 0 where
@@ -25,6 +26,9 @@ programOutput input = output lineAnswer limit input
 -- an answer and LF have no more bytes
 abbrev pub mostBytes : ℕ
 mostBytes = 4097
+
+pub ended-short : (h : Held) → length (lineAnswer h ++ (lineEnd ∷ [])) ≤ mostBytes
+ended-short h = rw length-append (omega (arith, answer-short h))
 
 abbrev ofLines : List (List ℕ) → List ℕ
 ofLines = flatMap (λ l. lineAnswer (held limit l) ++ (lineEnd ∷ []))

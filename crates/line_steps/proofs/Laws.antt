@@ -5,18 +5,14 @@ use mathlib.Core.Bool.{Bool, true, false, cond}
 use mathlib.Core.List.{List, [], _∷_, _++_}
 use native.Mathlib.Omega.{arith}
 use native.Mathlib.Nat.{zero-add}
-use lib.ListN.{length, length-append}
+use lib.ListN.{length}
 use Rattle.lent.specs.Put.{put, put-none}
 use Rattle.lines.specs.declared.Line.{Line}
-use Rattle.lines.specs.Lines.{lineEnd, Held}
+use Rattle.lines.specs.Lines.{lineEnd}
 use Rattle.lines.specs.Taking.{begun, heldIn, ended, longer, stored}
 use Rattle.lines.specs.Feeding.{finished, clear, writes, said}
 use Rattle.line_promise.specs.Answer.{lineAnswer}
-use Rattle.line_promise.specs.Laws.{answer-short}
-use Rattle.line_promise.specs.Output.{mostBytes}
-
-ended-short : (h : Held) → length (lineAnswer h ++ (lineEnd ∷ [])) ≤ mostBytes
-ended-short h = rw length-append (omega (arith, answer-short h))
+use Rattle.line_promise.specs.Output.{mostBytes, ended-short}
 
 module _ (buffer : List ℕ) (line : Line) where
   pub said-short : (piece : List ℕ) → length (said lineAnswer buffer line piece) ≤ mostBytes
