@@ -1,5 +1,6 @@
 // The line program: standard input to standard output, in large pieces.
 // No contract can speak of what is read or written: these say how the program stands behind each piece.
+use libc::STDERR_FILENO;
 use libc::STDIN_FILENO;
 use libc::STDOUT_FILENO;
 use lines::Line;
@@ -70,19 +71,23 @@ fn every(input: &mut [u8], buffer: &mut [u8], out: &mut [u8]) -> Reached
     Reached::More(line)
 }
 
-// The last line, where it has a byte and no LF.
-fn last(buffer: &[u8], line: Line, out: &mut [u8])
-    requires { ⌜ (line .len ≤ length (now buffer)) × (4097 ≤ length (now out)) ⌝ }
+// Answers every line, the last one too where it has a byte and no LF; says whether no read and no write has failed.
+fn all(input: &mut [u8], buffer: &mut [u8], out: &mut [u8]) -> bool
+    requires { ⌜ 4097 ≤ length (now out) ⌝ }
 {
+    let Reached::End(line) = every(input, buffer, out) else {
+        return false;
+    };
     let at = line_steps::finish(buffer, line, out);
-    io::write_all(STDOUT_FILENO, &out[..at]);
+    io::write_all(STDOUT_FILENO, &out[..at])
 }
 
+// A program has no exit status to give, so that a fault is told on standard error.
 pub fn run() {
     let mut input = io::large_buffer();
     let mut buffer = [0u8; 4096];
     let mut out = io::large_buffer();
-    if let Reached::End(line) = every(&mut input, &mut buffer, &mut out) {
-        last(&buffer, line, &mut out);
+    if !all(&mut input, &mut buffer, &mut out) {
+        io::write_all(STDERR_FILENO, b"saltwhistle: a read or a write failed\n");
     }
 }

@@ -1,6 +1,4 @@
 -- `line_program::once` meets its contract.
-use mathlib.Core.Path.{sym}
-use native.Mathlib.Omega.{arith}
 use Rattle.line_program.proofs.Laws.{once-ended, once-failed}
 use borrow.Author.Needs.{needs}
 use Rattle.line_program.proofs.once.Statement.{statement}
