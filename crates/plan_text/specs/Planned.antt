@@ -1,9 +1,10 @@
 -- What is planned for a record is the text that is wanted; and nothing where no text reads as the record.
-use Prim.Native.Nat.{ℕ}
+use Prim.Native.Nat.{ℕ, _≤_}
 use mathlib.Core.Path.{_≡_, refl, sym, ap, _∙_}
 use mathlib.Core.List.{List, [], _++_, append-nil, append-assoc}
 use mathlib.Core.Option.{Option, none, some}
-use mathlib.Core.Bool.{Bool, cond}
+use mathlib.Core.Bool.{Bool, true, cond}
+use lib.ListN.{length}
 use Rattle.texts.specs.Ascii.{ascii}
 use Rattle.texts.specs.Tests.{none-some}
 use Rattle.record.specs.declared.spans.Span.{Span}
@@ -20,15 +21,17 @@ use Rattle.grammar.specs.Header.{Header, printGene, printHeader, printKind}
 use Rattle.grammar.specs.Bodies.{Body}
 use Rattle.grammar.specs.Texts.{Text, Text.text, print, allLetters}
 use Rattle.grammar.specs.Values.{HeaderV, BodyV, Value, Value.value}
-use Rattle.grammar.specs.Contents.{locationContent, muNaEditContent, protBodyContent, bodyContent, headerContent, content}
+use Rattle.grammar.specs.Contents.{locationContent, muNaEditContent, protBodyContent, bodyContent, headerContent, content, spansInside}
 use Rattle.lang.specs.Canon.{mapO, bothO}
 use Rattle.na_edits.specs.Alphabet.{alphabets}
 use Rattle.headers.specs.Canonical.{canonHeader}
-use Rattle.promise.specs.Writing.{ReadsAsValue}
+use Rattle.promise.specs.Outcome.{limit}
+use Rattle.promise.specs.Writing.{ReadsAsValue, Sound, Unsound}
 use Rattle.canon.specs.TextCanon.{canonBody, canonText, text-some, text-none}
 use Rattle.canon.specs.Wording.{bodyWords, Wanted, words-wanted}
 use Rattle.emit.specs.Laws.{no-part}
 use Rattle.draft.specs.declared.Heading.{Heading}
+use Rattle.draft.specs.declared.Draft.{Draft}
 use Rattle.draft.specs.Texts.{headingText, bodyText, draftText}
 use Rattle.plan_header.specs.HeaderText.{isSome, header-text}
 use Rattle.plan_na_body.specs.declared.BodyPlan.{BodyPlan}
@@ -40,12 +43,12 @@ use Rattle.plan_text.specs.declared.TextPlan.the-variants.{NoText, Text 
 use Rattle.plan_text.specs.Plan.{kindOf, headingWith, headingOf, draftedPlan, planBody, textPlan}
 
 -- what a plan is to be: a text that reads as the value, in the words that are wanted; or none, where none reads as it
-pub record HasText (isShortest : Bool) (v : Value) (t : List ℕ) : Type 0 where
-  pub text : List ℕ
-  pub reads : ReadsAsValue allLetters text v
-  pub wanted : Wanted allLetters isShortest v t
+record HasText (isShortest : Bool) (v : Value) (t : List ℕ) : Type 0 where
+  text : List ℕ
+  reads : ReadsAsValue allLetters text v
+  wanted : Wanted allLetters isShortest v t
 
-abbrev pub Right : List ℕ → Bool → Value → TextPlan → Type 0
+abbrev Right : List ℕ → Bool → Value → TextPlan → Type 0
 Right s isShortest v NoText = (t : List ℕ) → ReadsAsValue allLetters t v → ⊥
 Right s isShortest v (Planned d) = HasText isShortest v (draftText s d)
 
@@ -105,10 +108,20 @@ module _ (s : List ℕ) where
           let best = text-some allLetters alphabets (value h k v) (text x k y) (rw (e, f)) in
           record { text = print (text x k y); reads = best .reads; wanted = rw z (words-wanted allLetters alphabets h x e isShortest k v y f) }
 
-    pub planned : (v : HgvsVariant) → Right s isShortest (content s v) (textPlan s isShortest v)
+    planned : (v : HgvsVariant) → Right s isShortest (content s v) (textPlan s isShortest v)
     unfolding textPlan
     planned v =
         let h = headerContent s (v .header) in
         let k = kindOf (v .body) in
         rw (value-is h (v .body))
         (whole h k (bodyValue (v .body)) (part s (v .header .accession)) (optionalPart s (v .header .«gene_symbol»)) (headingOf (v .header) k) (canonHeader h) (planBody s isShortest (v .body)) (canonBody allLetters alphabets k (bodyValue (v .body))) refl refl (header-text s (v .header)) (gene-text (part s (v .header .accession)) (printKind k) (v .header .«gene_symbol») k refl (v .header .accession) refl) (planned-body (v .body)))
+
+    -- the checks on source and record
+    module _ (v : HgvsVariant) (short : length s ≤ limit) (isIn : spansInside (length s) v ≡ true) where
+      pub unsound-plan : textPlan s isShortest v ≡ NoText → Unsound allLetters s v 5
+      unsound-plan e = Unsound.noText short isIn (rw e at (planned v))
+
+      pub sound-plan : (d : Draft) → textPlan s isShortest v ≡ Planned d → Sound allLetters s v × Wanted allLetters isShortest (content s v) (draftText s d)
+      sound-plan d e =
+          let h : HasText isShortest (content s v) (draftText s d) = rw e at (planned v) in
+          (record { short = short; inside = isIn; text = h .text; reads = h .reads }, h .wanted)

@@ -1,24 +1,24 @@
 -- What the writer answers, by the tests that it made.
 use Prim.Native.Nat.{ℕ, _≤_, _<_}
-use mathlib.Core.Path.{_≡_, refl, sym, _∙_}
+use mathlib.Core.Path.{_≡_, refl}
 use mathlib.Core.List.{List}
-use mathlib.Core.Bool.{Bool, true, false, cond}
+use mathlib.Core.Bool.{Bool, true, false}
 use lib.Dec.{leb}
 use lib.ListN.{length}
 use borrow.Author.Tests.{leb-true, leb-false}
 use Rattle.record.specs.declared.answers.WriteAnswer.{WriteAnswer}
-use Rattle.record.specs.declared.answers.WriteAnswer.the-variants.{Written, TooLong, BadSpan, NoText, NoRoom}
+use Rattle.record.specs.declared.answers.WriteAnswer.the-variants.{TooLong, BadSpan, NoText}
 use Rattle.record.specs.declared.variant.HgvsVariant.{HgvsVariant}
 use Rattle.grammar.specs.Texts.{allLetters}
 use Rattle.grammar.specs.Contents.{content, spansInside}
-use Rattle.promise.specs.Outcome.{Outcome, writeOutcome, limit}
+use Rattle.promise.specs.Outcome.{writeOutcome, limit}
 use Rattle.promise.specs.Writing.{Sound, Unsound, Writes}
 use Rattle.canon.specs.Wording.{Wanted}
 use Rattle.draft.specs.declared.Draft.{Draft}
 use Rattle.draft.specs.Texts.{draftText, answered, left}
 use Rattle.plan_text.specs.declared.TextPlan.the-variants as Plans
 use Rattle.plan_text.specs.Plan.{textPlan}
-use Rattle.plan_text.specs.Planned.{HasText, planned}
+use Rattle.plan_text.specs.Planned.{sound-plan, unsound-plan}
 
 module _ (source : List ℕ) (v : HgvsVariant) (output : List ℕ) (isShortest : Bool) where
   abbrev pub Answers : WriteAnswer → List ℕ → Type 0
@@ -31,7 +31,7 @@ module _ (source : List ℕ) (v : HgvsVariant) (output : List ℕ) (isShortest :
   bad-span h i = Writes.unsound 4 (Unsound.badSpan h i)
 
   pub no-text : length source ≤ limit → spansInside (length source) v ≡ true → textPlan source isShortest v ≡ Plans.NoText → Answers NoText output
-  no-text h i e = Writes.unsound 5 (Unsound.noText h i (rw e at (planned source isShortest v)))
+  no-text h i e = Writes.unsound 5 (unsound-plan source isShortest v h i e)
 
   -- of a text that is wanted
   module _ (sound : Sound allLetters source v) (t : List ℕ) (wanted : Wanted allLetters isShortest (content source v) t) where
@@ -46,5 +46,5 @@ module _ (source : List ℕ) (v : HgvsVariant) (output : List ℕ) (isShortest :
 
   pub drafted : length source ≤ limit → spansInside (length source) v ≡ true → (d : Draft) → textPlan source isShortest v ≡ Plans.Text d → (a : WriteAnswer) (o : List ℕ) → a ≡ answered (draftText source d) output → o ≡ left (draftText source d) output → Answers a o
   drafted h i d e a o p q =
-      let k : HasText isShortest (content source v) (draftText source d) = rw e at (planned source isShortest v) in
-      rw (p, q) (answers (record { short = h; inside = i; text = k .text; reads = k .reads }) (draftText source d) (k .wanted))
+      let k = sound-plan source isShortest v h i d e in
+      rw (p, q) (answers (k .0) (draftText source d) (k .1))

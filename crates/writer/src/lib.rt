@@ -14,7 +14,7 @@ fn write_wanted(source: &[u8], v: HgvsVariant, output: &mut [u8], shortest: bool
     if 4096 < source.len() {
         return WriteAnswer::TooLong;
     }
-    if !parts::spans_inside(source.len(), v) {
+    if !record_inside::spans_inside(source.len(), v) {
         return WriteAnswer::BadSpan;
     }
     let TextPlan::Text(d) = plan_text::plan_text(source, shortest, v) else {

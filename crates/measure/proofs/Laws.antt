@@ -1,0 +1,44 @@
+-- What measuring answers, by the tests that were made.
+use Prim.Native.Nat.{ℕ, _≤_, _<_}
+use mathlib.Core.Path.{_≡_, sym, _∙_}
+use mathlib.Core.List.{List}
+use mathlib.Core.Option.{none, some}
+use mathlib.Core.Bool.{true, false}
+use lib.ListN.{length}
+use Rattle.record.specs.declared.answers.WidthAnswer.{WidthAnswer}
+use Rattle.record.specs.declared.answers.WidthAnswer.the-variants.{Width, TooLong, BadSpan, NoText, NoWidth}
+use Rattle.record.specs.declared.variant.HgvsVariant.{HgvsVariant}
+use Rattle.grammar.specs.Texts.{allLetters}
+use Rattle.grammar.specs.Contents.{spansInside}
+use Rattle.promise.specs.Outcome.{widthOutcome, limit}
+use Rattle.promise.specs.Writing.{Unsound}
+use Rattle.promise.specs.Width.{bodyWidth, Measures}
+use Rattle.body_width.specs.declared.BodyWidth.the-variants as Widths
+use Rattle.body_width.specs.declared.BodyWidth.{BodyWidth}
+use Rattle.body_width.specs.Widths.{widthGiven}
+use Rattle.draft.specs.declared.Draft.{Draft}
+use Rattle.plan_text.specs.declared.TextPlan.the-variants as Plans
+use Rattle.plan_text.specs.Plan.{textPlan}
+use Rattle.plan_text.specs.Planned.{sound-plan, unsound-plan}
+
+module _ (source : List ℕ) (v : HgvsVariant) where
+  abbrev pub Answers : WidthAnswer → Type 0
+  Answers a = Measures allLetters source v (widthOutcome a)
+
+  pub too-long : limit < length source → Answers TooLong
+  too-long h = Measures.unsound 1 (Unsound.tooLong h)
+
+  module _ (short : length source ≤ limit) where
+    pub bad-span : spansInside (length source) v ≡ false → Answers BadSpan
+    bad-span i = Measures.unsound 4 (Unsound.badSpan short i)
+
+    module _ (isIn : spansInside (length source) v ≡ true) where
+      pub no-text : textPlan source true v ≡ Plans.NoText → Answers NoText
+      no-text e = Measures.unsound 5 (unsound-plan source true v short isIn e)
+
+      module _ (d : Draft) (e : textPlan source true v ≡ Plans.Text d) (w : BodyWidth) (f : widthGiven w ≡ bodyWidth (v .body)) where
+        pub no-width : w ≡ Widths.NoWidth → Answers NoWidth
+        no-width g = Measures.noWidth (sound-plan source true v short isIn d e .0) (sym (rw g at f))
+
+        pub measured : (n : ℕ) → w ≡ Widths.Width n → Answers (Width n)
+        measured n g = Measures.measured (sound-plan source true v short isIn d e .0) n (sym (rw g at f))

@@ -1,0 +1,28 @@
+// Measuring a record: how many bases or residues its location spans.
+use body_width::BodyWidth;
+use plan_text::TextPlan;
+use record::answers::WidthAnswer;
+use record::variant::HgvsVariant;
+ghost use Rattle.grammar.specs.Texts.{allLetters};
+ghost use Rattle.promise.specs.Outcome.{widthOutcome};
+ghost use Rattle.promise.specs.Width.{Measures};
+
+// The width of the record's location, or the refusal's number.
+pub fn width(source: &[u8], v: HgvsVariant) -> WidthAnswer
+    ensures { λ r. ⌜ Measures allLetters (now (source .entry)) v (widthOutcome r) ⌝ }
+{
+    if 4096 < source.len() {
+        return WidthAnswer::TooLong;
+    }
+    if !record_inside::spans_inside(source.len(), v) {
+        return WidthAnswer::BadSpan;
+    }
+    let TextPlan::Text(_) = plan_text::plan_text(source, true, v) else {
+        return WidthAnswer::NoText;
+    };
+    let body = v.body;
+    match body_width::body_width(body) {
+        BodyWidth::NoWidth => WidthAnswer::NoWidth,
+        BodyWidth::Width(n) => WidthAnswer::Width(n),
+    }
+}
