@@ -23,8 +23,8 @@ use Rattle.bodies.specs.WholeText.{parseText, sound-text, complete-text}
 use Rattle.promise.specs.Outcome.{Outcome, Outcome.given, Outcome.refused, limit}
 use Rattle.promise.specs.Reading.{TreeOf, Reads, Reads.tooLong, Reads.notInGrammar, Reads.doesNotFit, Reads.accepted}
 use Rattle.promise.specs.Writing.{ReadsAsValue, ShortestText, Unsound, Unsound.tooLong, Unsound.badSpan, Unsound.noText, Writes, ToWrite}
-use Rattle.inside.specs.Spans.{spans-in-text}
-use Rattle.inside.specs.Places.{place-in-text}
+use Rattle.grammar.specs.SpanLaw.{spans-in-text}
+use Rattle.grammar.specs.PlaceLaw.{place-in-text}
 use Rattle.canon.specs.TextCanon.{canonText, reads-canon, shortest-only}
 use Rattle.na_edits.specs.Alphabet.{alphabets}
 use Rattle.reader.specs.Unique.{reads-content}

@@ -1,7 +1,7 @@
 -- `canonical_line::answer` meets its contract.
 use mathlib.Core.Bool.{cond}
 use native.Mathlib.Omega.{arith}
-use Rattle.emit.proofs.Laws.{then}
+use Rattle.lent.specs.Put.{then}
 use Rattle.lines.specs.Lines.{Held.whole, Held.tooLong}
 use Rattle.line_promise.specs.Laws.{answer-short}
 use borrow.Author.Needs.{needs}

@@ -1,6 +1,6 @@
 -- `canonical_line::put_refusal` meets its contract.
 use native.Mathlib.Omega.{arith}
-use Rattle.emit.proofs.Laws.{then}
+use Rattle.lent.specs.Put.{then}
 use Rattle.line_promise.specs.Answer.{refusal}
 use Rattle.canonical_line.proofs.Laws.{refusal-length}
 use borrow.Author.Needs.{needs}

@@ -12,18 +12,18 @@ use Rattle.number.specs.Digits.{val}
 use Rattle.number.specs.Reading.{fits}
 use Rattle.record.specs.declared.variant.Kind.{Kind}
 use Rattle.record.specs.declared.variant.Kind.the-variants.{Cds, Genome, Mt, Tx, Prot, Rna}
 use Rattle.grammar.specs.Header.{printHeader, printKind}
 use Rattle.grammar.specs.Positions.{Offset, Offset.absent, Offset.ahead, Offset.back, Based, Based.based, Genomic, Genomic.known, Genomic.unknown, Residual, Residual.residual, Position, printMark, printOffset, printBased, printGenomic, printResidual, printPosition}
 use Rattle.grammar.specs.Shapes.{Interval.one, Interval.two, Mu, Mu.certain, Mu.uncertain, Both.both, printMu}
 use Rattle.grammar.specs.NucleotideEdits.{NaEdit, NaEdit.equal, NaEdit.swap, NaEdit.delIns, NaEdit.delNumIns, NaEdit.delNum, NaEdit.del, NaEdit.ins, NaEdit.dup, NaEdit.invNum, NaEdit.inv, printNaEdit}
 use Rattle.grammar.specs.Optional.{printOptional}
 use Rattle.grammar.specs.ProteinEdits as P
 use Rattle.grammar.specs.ProteinEdits.{ProteinEdit, Length, Length.counted, Length.unsaid, Stop, Stop.stop, ExtEnd, ExtEnd.nothing, ExtEnd.later, ExtEnd.earlier, printTerminal, printStop, printFsEnd, printExtEnd, printProteinEdit}
 use Rattle.grammar.specs.Bodies.{Ends, printEnds, printLocation, NaBody, ProteinBody, ProteinBody.met1, ProteinBody.bracketedMet1, ProteinBody.noProteinUncertain, ProteinBody.noProtein, ProteinBody.noChangeUncertain, ProteinBody.noChange, ProteinBody.unknown, ProteinBody.change, ProteinBody.bracketed, Body, printNaBody, printBody, printProteinBody}
 use Rattle.grammar.specs.Texts.{Text, Text.text, print}
 use Rattle.grammar.specs.Numbers.{Numeral, Numeral.numeral, misfit, offsetNumbers, basedNumbers, genomicNumbers, residualNumbers, positionNumbers, endsNumbers, muNumbers, naEditNumbers, stopNumbers, fsNumbers, extNumbers, proteinEditNumbers, naBodyNumbers, proteinBodyNumbers, bodyNumbers, numbersAt}
 use Rattle.grammar.specs.Standing.{Stands, left, right, stands-end, stands-whole}
-use Rattle.inside.specs.Spans.{inner}
+use Rattle.grammar.specs.SpanLaw.{inner}
 
 module _ (s : List ℕ) where
   -- the place of each lies in the source
