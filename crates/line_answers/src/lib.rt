@@ -1,4 +1,4 @@
-// For each line of standard input the answer to reading it, on a line of standard output.
+// For each line of standard input the answer to reading it, on a line of standard output; where columns are wanted, a record has them behind it.
 use libc::STDIN_FILENO;
 use libc::STDOUT_FILENO;
 use lines::Line;
@@ -7,8 +7,8 @@ use record::answers::ReadAnswer;
 ghost use Prim.Native.Nat.{_≤_};
 ghost use lib.ListN.{length};
 
-// An answer and LF are shorter: a record names no byte of its text more than twice.
-const MOST: usize = 16384;
+// An answer and LF are shorter: a record names no byte of its text more than twice, and each of the two texts behind it is no longer than 4,096 bytes.
+const MOST: usize = 20480;
 
 fn read(text: &[u8], long: bool) -> ReadAnswer {
     if long {
@@ -17,19 +17,39 @@ fn read(text: &[u8], long: bool) -> ReadAnswer {
     reader::read(text)
 }
 
+// The answer to a text and, where they are wanted, the columns of its record.
+fn answer(text: &[u8], out: &mut [u8], at: usize, r: ReadAnswer, columns: bool) -> usize
+    ensures { λ r. ⌜ r ≤ length (now (out .entry)) ⌝ }
+{
+    let behind = show::answer(text, out, at, r);
+    if columns {
+        if let ReadAnswer::Accepted(v) = r {
+            return columns::columns(text, out, behind, v);
+        }
+    }
+    behind
+}
+
 // The answer to a line, and LF.
-fn answer(buffer: &[u8], line: Line, out: &mut [u8], at: usize) -> usize
+fn answer_line(buffer: &[u8], line: Line, out: &mut [u8], at: usize, columns: bool) -> usize
     requires { ⌜ line .len ≤ length (now buffer) ⌝ }
     ensures { λ r. ⌜ r ≤ length (now (out .entry)) ⌝ }
 {
     let len = line.len;
     let text = &buffer[..len];
-    let behind = show::answer(text, out, at, read(text, line.long));
+    let behind = answer(text, out, at, read(text, line.long), columns);
     show::room::byte(out, behind, b'\n')
 }
 
 // One line of the piece, or as much of one as there is.
-fn turn(piece: &[u8], buffer: &mut [u8], line: Line, out: &mut [u8], at: usize) -> Progress
+fn turn(
+    piece: &[u8],
+    buffer: &mut [u8],
+    line: Line,
+    out: &mut [u8],
+    at: usize,
+    columns: bool,
+) -> Progress
     requires { ⌜ (line .len ≤ length (now buffer)) × (at ≤ length (now out)) ⌝ }
     ensures { λ r. ⌜ (r .used ≤ length (now (piece .entry))) × (1 ≤ length (now (piece .entry)) → 1 ≤ r .used) × (r .line .len ≤ length (now (buffer .entry))) × (r .at ≤ length (now (out .entry))) ⌝ }
 {
@@ -42,7 +62,7 @@ fn turn(piece: &[u8], buffer: &mut [u8], line: Line, out: &mut [u8], at: usize) 
             at,
         };
     }
-    let behind = answer(buffer, next, out, at);
+    let behind = answer_line(buffer, next, out, at, columns);
     Progress {
         used: t.used,
         line: lines::no_line(),
@@ -51,7 +71,7 @@ fn turn(piece: &[u8], buffer: &mut [u8], line: Line, out: &mut [u8], at: usize) 
 }
 
 // Lines of the piece, while there is room for one more answer.
-fn step(piece: &[u8], buffer: &mut [u8], line: Line, out: &mut [u8]) -> Progress
+fn step(piece: &[u8], buffer: &mut [u8], line: Line, out: &mut [u8], columns: bool) -> Progress
     requires { ⌜ line .len ≤ length (now buffer) ⌝ }
     ensures { λ r. ⌜ (r .used ≤ length (now (piece .entry))) × (1 ≤ length (now (piece .entry)) → 1 ≤ r .used) × (r .line .len ≤ length (now (buffer .entry))) × (r .at ≤ length (now (out .entry))) ⌝ }
 {
@@ -59,7 +79,7 @@ fn step(piece: &[u8], buffer: &mut [u8], line: Line, out: &mut [u8]) -> Progress
     let mut at: usize = 0;
     let mut state = line;
     while used < piece.len() {
-        let t = turn(&piece[used..], buffer, state, out, at);
+        let t = turn(&piece[used..], buffer, state, out, at, columns);
         used += t.used;
         at = t.at;
         let next = t.line;
@@ -86,14 +106,14 @@ struct Gone {
 }
 
 // All of the piece; it goes on while what is made can be written.
-fn over(piece: &[u8], buffer: &mut [u8], line: Line, out: &mut [u8]) -> Gone
+fn over(piece: &[u8], buffer: &mut [u8], line: Line, out: &mut [u8], columns: bool) -> Gone
     requires { ⌜ line .len ≤ length (now buffer) ⌝ }
     ensures { λ r. ⌜ r .line .len ≤ length (now (buffer .entry)) ⌝ }
 {
     let mut i: usize = 0;
     let mut state = line;
     while i < piece.len() {
-        let s = step(&piece[i..], buffer, state, out);
+        let s = step(&piece[i..], buffer, state, out, columns);
         let at = s.at;
         let next = s.line;
         if !io::write_all(STDOUT_FILENO, &out[..at]) {
@@ -112,17 +132,17 @@ fn over(piece: &[u8], buffer: &mut [u8], line: Line, out: &mut [u8]) -> Gone
 }
 
 // The last line, where it has a byte and no LF.
-fn finish(buffer: &[u8], line: Line, out: &mut [u8])
+fn finish(buffer: &[u8], line: Line, out: &mut [u8], columns: bool)
     requires { ⌜ line .len ≤ length (now buffer) ⌝ }
 {
     if lines::at_end(line) {
-        let at = answer(buffer, line, out, 0);
+        let at = answer_line(buffer, line, out, 0, columns);
         io::write_all(STDOUT_FILENO, &out[..at]);
     }
 }
 
 // Reads once, and answers what came.
-fn once(input: &mut [u8], buffer: &mut [u8], line: Line, out: &mut [u8]) -> Gone
+fn once(input: &mut [u8], buffer: &mut [u8], line: Line, out: &mut [u8], columns: bool) -> Gone
     requires { ⌜ line .len ≤ length (now buffer) ⌝ }
     ensures { λ r. ⌜ r .line .len ≤ length (now (buffer .entry)) ⌝ }
 {
@@ -131,18 +151,18 @@ fn once(input: &mut [u8], buffer: &mut [u8], line: Line, out: &mut [u8]) -> Gone
         return Gone { going: false, line };
     }
     if got == 0 {
-        finish(buffer, line, out);
+        finish(buffer, line, out, columns);
         return Gone { going: false, line };
     }
     let n = io::count(got, input);
-    over(&input[..n], buffer, line, out)
+    over(&input[..n], buffer, line, out, columns)
 }
 
-fn every(input: &mut [u8], buffer: &mut [u8], out: &mut [u8]) {
+fn every(input: &mut [u8], buffer: &mut [u8], out: &mut [u8], columns: bool) {
     let mut line = lines::no_line();
     let mut turns = u64::MAX;
     while turns > 0 {
-        let o = once(input, buffer, line, out);
+        let o = once(input, buffer, line, out, columns);
         if !o.going {
             return;
         }
@@ -152,9 +172,9 @@ fn every(input: &mut [u8], buffer: &mut [u8], out: &mut [u8]) {
     }
 }
 
-pub fn run() {
+pub fn run(columns: bool) {
     let mut input = io::large_buffer();
     let mut buffer = [0u8; 4096];
     let mut out = io::large_buffer();
-    every(&mut input, &mut buffer, &mut out);
+    every(&mut input, &mut buffer, &mut out, columns);
 }

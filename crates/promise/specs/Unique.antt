@@ -78,7 +78,7 @@ module _ (letters : Kind → ℕ → Bool) where
     one-tree : {t : List ℕ} (x y : Text) → TreeOf letters t x → TreeOf letters t y → x ≡ y
     one-tree x y a b = unambiguous x y (a .wf) (b .wf) (a .text ∙ sym (b .text))
 
-    reads-unique : (t : List ℕ) (a b : Outcome HgvsVariant) → Reads letters t a → Reads letters t b → a ≡ b
+    pub reads-unique : (t : List ℕ) (a b : Outcome HgvsVariant) → Reads letters t a → Reads letters t b → a ≡ b
     reads-unique t a b (tooLong h) (tooLong k) = refl
     reads-unique t a b (tooLong h) (notInGrammar k g) = absurd (omega arith)
     reads-unique t a b (tooLong h) (doesNotFit k y w q f) = absurd (omega arith)
@@ -119,7 +119,7 @@ module _ (letters : Kind → ℕ → Bool) where
 
   -- ---- writing, where at most one text is to be written for a value
   module _ (T : Value → List ℕ → Type 0) (one-text : (v : Value) (t u : List ℕ) → T v t → T v u → t ≡ u) (source : List ℕ) (v : HgvsVariant) (output : List ℕ) where
-    writes-unique : (a b : Outcome ℕ) (o p : List ℕ) → Writes letters T source v output a o → Writes letters T source v output b p → (a ≡ b) × (o ≡ p)
+    pub writes-unique : (a b : Outcome ℕ) (o p : List ℕ) → Writes letters T source v output a o → Writes letters T source v output b p → (a ≡ b) × (o ≡ p)
     writes-unique a b o p (Writes.unsound m h) (Writes.unsound n k) = (ap (λ (i : ℕ). refused i 0) (one-number m n h k), refl)
     writes-unique a b o p (Writes.unsound m h) (Writes.tooLong s u y k) = absurd (not-both m h s)
     writes-unique a b o p (Writes.unsound m h) (Writes.noRoom s u y k l) = absurd (not-both m h s)
@@ -164,7 +164,7 @@ module _ (letters : Kind → ℕ → Bool) where
 
   -- ---- measuring
   module _ (source : List ℕ) (v : HgvsVariant) where
-    measures-unique : (a b : Outcome ℕ) → Measures letters source v a → Measures letters source v b → a ≡ b
+    pub measures-unique : (a b : Outcome ℕ) → Measures letters source v a → Measures letters source v b → a ≡ b
     measures-unique a b (unsound m h) (unsound n k) = ap (λ (i : ℕ). refused i 0) (one-number m n h k)
     measures-unique a b (unsound m h) (noWidth s f) = absurd (not-both m h s)
     measures-unique a b (unsound m h) (measured s w f) = absurd (not-both m h s)

@@ -1,4 +1,4 @@
-//! Compares a reader's answers, in the form of crates/show, with the Rust's, text by text.
+//! Compares the answers of the program `records` with the Rust's, text by text.
 
 use std::fs::File;
 use std::io::{BufRead, BufReader, Result};
@@ -15,7 +15,15 @@ struct Counts {
     refused: u64,
     panics: u64,
     too_long: u64,
+    zero_offsets: u64,
     different: usize,
+}
+
+enum Verdict {
+    Same,
+    /// But for the display of an offset of 0, which docs/DIFFERENCES.md lists.
+    SameButZeroOffset,
+    Different,
 }
 
 fn main() -> Result<()> {
@@ -52,10 +60,11 @@ fn main() -> Result<()> {
         refused,
         panics,
         too_long,
+        zero_offsets,
         different,
     } = counts;
     println!(
-        "{} texts: {records} records, {refused} refused by both, {panics} where the Rust panics, {too_long} over {LIMIT} bytes; {different} differences",
+        "{} texts: {records} records ({zero_offsets} with an offset of 0), {refused} refused by both, {panics} where the Rust panics, {too_long} over {LIMIT} bytes; {different} differences",
         records + refused + panics + too_long
     );
     process::exit((different > 0).into());
@@ -73,29 +82,72 @@ fn read_line(file: &mut impl BufRead, line: &mut Vec<u8>) -> Result<bool> {
 
 fn compare(text: &[u8], ours: &[u8], counts: &mut Counts) {
     let theirs = answer(text);
-    let (count, agrees) = if text.len() > LIMIT {
-        (&mut counts.too_long, ours == b"! 1 0")
+    let (count, verdict) = if text.len() > LIMIT {
+        (&mut counts.too_long, same_if(ours == b"! 1 0"))
     } else {
         match theirs.as_str() {
-            "PANIC" => (&mut counts.panics, ours == b"! 2 0" || does_not_fit(text, ours)),
-            "ERR" | "NOTUTF8" => (&mut counts.refused, ours == b"! 2 0"),
-            record => (
-                &mut counts.records,
-                record.split('\t').next().map(str::as_bytes) == Some(ours),
+            "PANIC" => (
+                &mut counts.panics,
+                same_if(ours == b"! 2 0" || does_not_fit(text, ours)),
             ),
+            "ERR" | "NOTUTF8" => (&mut counts.refused, same_if(ours == b"! 2 0")),
+            read => (&mut counts.records, compare_record(text, ours, read)),
         }
     };
     *count += 1;
-    if !agrees {
-        counts.different += 1;
-        if counts.different <= SHOWN {
-            println!(
-                "{}\n  ours  {}\n  Rust  {theirs}",
-                text.escape_ascii(),
-                ours.escape_ascii()
-            );
+    match verdict {
+        Verdict::Same => {}
+        Verdict::SameButZeroOffset => counts.zero_offsets += 1,
+        Verdict::Different => {
+            counts.different += 1;
+            if counts.different <= SHOWN {
+                println!(
+                    "{}\n  ours  {}\n  Rust  {theirs}",
+                    text.escape_ascii(),
+                    ours.escape_ascii()
+                );
+            }
         }
     }
+}
+
+fn same_if(same: bool) -> Verdict {
+    if same {
+        Verdict::Same
+    } else {
+        Verdict::Different
+    }
+}
+
+/// Of a text that the Rust reads: the record; a shortest text that the Rust reads as that record; and the text without
+/// the reference.
+fn compare_record(text: &[u8], ours: &[u8], theirs: &str) -> Verdict {
+    let Some((record, display)) = theirs.split_once('\t') else {
+        return Verdict::Different;
+    };
+    let columns: Vec<_> = ours.split(|&byte| byte == b'\t').collect();
+    let [our_record, shortest, without_reference, _width] = columns[..] else {
+        return Verdict::Different;
+    };
+    if our_record != record.as_bytes() || shortest.len() > text.len() || record_of(&answer(shortest)) != Some(record) {
+        return Verdict::Different;
+    }
+    if record.starts_with('p') {
+        // The Rust's display is not at hand.
+        return same_if(without_reference == shortest);
+    }
+    if without_reference == display.as_bytes() {
+        return Verdict::Same;
+    }
+    // An offset alone has a plus.
+    match std::str::from_utf8(without_reference) {
+        Ok(text) if text.replace("+0", "0") == display => Verdict::SameButZeroOffset,
+        _ => Verdict::Different,
+    }
+}
+
+fn record_of(answer: &str) -> Option<&str> {
+    answer.split_once('\t').map(|(record, _)| record)
 }
 
 /// `! 3 ` and the index of the first digit of a number that is over 2,147,483,647.

@@ -7,11 +7,11 @@ use Rattle.line_answers.proofs.every.Statement.{statement}
 use Rattle.line_answers.proofs.every.Tie as tie
 
 abbrev Inv-loop : tie.InvT-loop
-Inv-loop input₀ buffer₀ out₀ line₀ turns₀ input buffer out line turns =
+Inv-loop input₀ buffer₀ out₀ columns line₀ turns₀ input buffer out line turns =
     (line .len ≤ length buffer) × (length input ≡ length input₀) × (length buffer ≡ length buffer₀) × (length out ≡ length out₀)
 
 abbrev μ-loop : tie.MeasureT-loop
-μ-loop input₀ buffer₀ out₀ line₀ turns₀ input buffer out line turns = turns
+μ-loop input₀ buffer₀ out₀ columns line₀ turns₀ input buffer out line turns = turns
 
 no-line-requires : tie.Need-no-line-requires Inv-loop μ-loop
 no-line-requires c κs = search needs

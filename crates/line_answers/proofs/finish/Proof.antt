@@ -7,14 +7,14 @@ use Rattle.line_answers.proofs.finish.Tie as tie
 at-end-requires : tie.Need-at-end-requires
 at-end-requires c κs = search needs
 
-answer-requires : tie.Need-answer-requires
-answer-requires c κs = search needs
+answer-line-requires : tie.Need-answer-line-requires
+answer-line-requires c κs = search needs
 
 slice-reshare-prefix-write-all : tie.Need-slice-reshare-prefix-write-all
 slice-reshare-prefix-write-all c = search needs
 
 slice-aggregate-write-all : tie.Need-slice-aggregate-write-all
-slice-aggregate-write-all c = sym (length-take-le (c .before .before .before .answer .result) _ (search needs))
+slice-aggregate-write-all c = sym (length-take-le (c .before .before .before .answer-line .result) _ (search needs))
 
 write-all-requires : tie.Need-write-all-requires
 write-all-requires c κs = search needs
@@ -33,7 +33,7 @@ finish-spec =
     tie.close
     (tie.spec
     at-end-requires
-    answer-requires
+    answer-line-requires
     slice-reshare-prefix-write-all
     slice-aggregate-write-all
     write-all-requires

@@ -7,11 +7,11 @@ use Rattle.line_answers.proofs.over.Statement.{statement}
 use Rattle.line_answers.proofs.over.Tie as tie
 
 abbrev Inv-loop : tie.InvT-loop
-Inv-loop piece buffer₀ out₀ i₀ state₀ buffer out i state =
+Inv-loop piece buffer₀ out₀ columns i₀ state₀ buffer out i state =
     (i ≤ length piece) × (length buffer ≡ length buffer₀) × (length out ≡ length out₀) × (state .len ≤ length buffer₀)
 
 abbrev μ-loop : tie.MeasureT-loop
-μ-loop piece buffer₀ out₀ i₀ state₀ buffer out i state = length piece - i
+μ-loop piece buffer₀ out₀ columns i₀ state₀ buffer out i state = length piece - i
 
 loop-holds : tie.Need-loop-holds Inv-loop μ-loop
 loop-holds c = search needs

@@ -6,11 +6,11 @@ use Rattle.line_answers.proofs.step.Statement.{statement}
 use Rattle.line_answers.proofs.step.Tie as tie
 
 abbrev Inv-loop : tie.InvT-loop
-Inv-loop piece buffer₀ out₀ used₀ at₀ state₀ buffer out used at state =
+Inv-loop piece buffer₀ out₀ columns used₀ at₀ state₀ buffer out used at state =
     (used ≤ length piece) × (at ≤ length out₀) × (length buffer ≡ length buffer₀) × (length out ≡ length out₀) × (state .len ≤ length buffer₀)
 
 abbrev μ-loop : tie.MeasureT-loop
-μ-loop piece buffer₀ out₀ used₀ at₀ state₀ buffer out used at state = length piece - used
+μ-loop piece buffer₀ out₀ columns used₀ at₀ state₀ buffer out used at state = length piece - used
 
 loop-holds : tie.Need-loop-holds Inv-loop μ-loop
 loop-holds c = search needs

@@ -17,8 +17,8 @@ returns c =
     let u = taken-used (a .buffer .now) (a .line) (a .piece .now) (t .take .ensures .0) in
     (u .0, u .1, taken-within (a .buffer .now) (a .line) (a .piece .now) (t .take .ensures .0) (omega arith), omega arith)
 
-answer-requires : tie.Need-answer-requires
-answer-requires c κs =
+answer-line-requires : tie.Need-answer-line-requires
+answer-line-requires c κs =
     let t = c .before .before .before .before .before .before .before in
     let a = t .before .before .before .before .before .args in
     omega (arith, taken-within (a .buffer .now) (a .line) (a .piece .now) (t .take .ensures .0) (omega arith))
@@ -47,7 +47,7 @@ turn-spec =
     take-requires
     same-length
     returns
-    answer-requires
+    answer-line-requires
     no-line-requires
     same-length-2
     same-length-3

@@ -1,6 +1,7 @@
 -- Only a body that is location and edit has spans.
 use Rattle.grammar.specs.Contents.{protBodyInside}
-use Rattle.record_inside.proofs.Laws.{told, both-fail, both-next}
+use Rattle.parts.proofs.Laws.{both-fail, both-next}
+use Rattle.record_inside.proofs.Laws.{told}
 use borrow.Author.Needs.{needs}
 use Rattle.record_inside.proofs.prot_body_inside.Statement.{statement}
 use Rattle.record_inside.proofs.prot_body_inside.Tie as tie

@@ -2,8 +2,8 @@ use mathlib.Core.Path.{sym}
 use native.Mathlib.Omega.{arith}
 use lib.Seq.{length-take-le}
 use borrow.Author.Needs.{needs}
-use Rattle.line_answers.proofs.answer.Statement.{statement}
-use Rattle.line_answers.proofs.answer.Tie as tie
+use Rattle.line_answers.proofs.answer_line.Statement.{statement}
+use Rattle.line_answers.proofs.answer_line.Tie as tie
 
 slice-aggregate-text : tie.Need-slice-aggregate-text
 slice-aggregate-text c = let a = c .before .before .before .args in sym (length-take-le (a .line .len) (a .buffer .now) (omega arith))
@@ -23,7 +23,7 @@ same-length c = search needs
 returns : tie.Need-returns
 returns c = search needs
 
-pub answer-spec : {M : Type 1} → statement M
-answer-spec =
+pub answer-line-spec : {M : Type 1} → statement M
+answer-line-spec =
     tie.close
     (tie.spec slice-aggregate-text read-requires answer-requires byte-requires same-length returns)

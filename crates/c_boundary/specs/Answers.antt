@@ -1,0 +1,28 @@
+-- What an operation on a text answers in numbers: what reading the text refuses; else what writing or measuring its record answers.
+use Prim.Native.Nat.{ℕ}
+use mathlib.Core.List.{List}
+use Rattle.record.specs.declared.variant.HgvsVariant.{HgvsVariant}
+use Rattle.grammar.specs.Texts.{allLetters}
+use Rattle.grammar.specs.Values.{Value}
+use Rattle.promise.specs.Outcome.{Outcome, Outcome.given, Outcome.refused}
+use Rattle.promise.specs.Reading.{Reads}
+use Rattle.promise.specs.Writing.{Writes}
+use Rattle.promise.specs.Width.{Measures}
+use Rattle.c_boundary.specs.declared.Answer.{Answer}
+
+-- on a refusal the length or width is 0
+abbrev pub refusal : ℕ → ℕ → Answer
+refusal n place = record { number = n; place = place; value = 0 }
+
+abbrev pub numbered : Outcome ℕ → Answer
+numbered (given n) = record { number = 0; place = 0; value = n }
+numbered (refused n place) = refusal n place
+
+-- T says which text is to be written for a value
+pub data Rewrites (T : Value → List ℕ → Type 0) (t output : List ℕ) : Answer → List ℕ → Type 0 where
+  unread : (n place : ℕ) → Reads allLetters t (refused n place) → Rewrites T t output (refusal n place) output
+  written : (v : HgvsVariant) → Reads allLetters t (given v) → (a : Outcome ℕ) (o : List ℕ) → Writes allLetters T t v output a o → Rewrites T t output (numbered a) o
+
+pub data Gauges (t : List ℕ) : Answer → Type 0 where
+  unread : (n place : ℕ) → Reads allLetters t (refused n place) → Gauges t (refusal n place)
+  measured : (v : HgvsVariant) → Reads allLetters t (given v) → (a : Outcome ℕ) → Measures allLetters t v a → Gauges t (numbered a)
