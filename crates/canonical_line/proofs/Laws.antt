@@ -11,12 +11,11 @@ use Rattle.lent.specs.Put.{put, put-front}
 use Rattle.number.specs.Digits.{dec}
 use Rattle.record.specs.declared.variant.HgvsVariant.{HgvsVariant}
 use Rattle.grammar.specs.Texts.{allLetters}
-use Rattle.promise.specs.Outcome.{Outcome, Outcome.given, Outcome.refused, limit}
+use Rattle.promise.specs.Outcome.{Outcome, Outcome.given, Outcome.refused, limit, givenLength}
 use Rattle.promise.specs.Reading.{Reads}
 use Rattle.promise.specs.Writing.{Writes, ToWrite}
 use Rattle.lines.specs.Lines.{Held.whole, Held.tooLong}
 use Rattle.line_promise.specs.Answer.{refusal, lineAnswer}
-use Rattle.canonical_line.specs.Given.{lengthGiven}
 use Rattle.line_promise.specs.Laws.{refused-answer, written-answer}
 
 pub refusal-length : (n place : ℕ) → length (refusal n place) ≡ 2 + (length (dec n) + (1 + length (dec place)))
@@ -42,8 +41,8 @@ module _ (l : List ℕ) (v : HgvsVariant) (r : Reads allLetters l (given v)) (ro
   part-answer : (o ≡ given (length (lineAnswer (whole l)))) × (after ≡ put (take (length room - at) (drop at room)) 0 (lineAnswer (whole l)))
   part-answer = written-answer l v r (omega (arith, ap length (tail-part at room), length-drop at room)) e
 
-  pub text-length : lengthGiven o ≡ length (lineAnswer (whole l))
-  text-length = ap lengthGiven (part-answer .0)
+  pub text-length : givenLength o ≡ length (lineAnswer (whole l))
+  text-length = ap givenLength (part-answer .0)
 
   pub text-put : take at room ++ (after ++ drop (length room - at) (drop at room)) ≡ put room at (lineAnswer (whole l))
   text-put = rw (part-answer .1) (put-part room at (lineAnswer (whole l)))

@@ -9,11 +9,10 @@ ghost use Prim.Native.Nat.{_+_, _≤_};
 ghost use lib.ListN.{length};
 ghost use Rattle.lent.specs.Put.{put};
 ghost use Rattle.grammar.specs.Texts.{allLetters};
-ghost use Rattle.promise.specs.Outcome.{Outcome.given, writeOutcome};
+ghost use Rattle.promise.specs.Outcome.{Outcome.given, writeOutcome, givenLength};
 ghost use Rattle.promise.specs.Reading.{Reads};
 ghost use Rattle.lines.specs.Lines.{lineEnd, Held.whole, Held.tooLong};
 ghost use Rattle.line_promise.specs.Answer.{refusal, lineAnswer};
-ghost use Rattle.canonical_line.specs.Given.{lengthGiven};
 
 fn put_refusal(out: &mut [u8], at: usize, number: u32, place: u32) -> usize
     requires { ⌜ at + length (refusal number place) ≤ length (now out) ⌝ }
@@ -26,7 +25,7 @@ fn put_refusal(out: &mut [u8], at: usize, number: u32, place: u32) -> usize
 }
 
 fn length_given(w: WriteAnswer) -> usize
-    ensures { λ r. ⌜ r ≡ lengthGiven (writeOutcome w) ⌝ }
+    ensures { λ r. ⌜ r ≡ givenLength (writeOutcome w) ⌝ }
 {
     match w {
         WriteAnswer::Written(n) => n,
