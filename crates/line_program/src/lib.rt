@@ -11,7 +11,7 @@ ghost use Rattle.line_promise.specs.Answer.{lineAnswer};
 ghost use Rattle.line_program.specs.States.{Stands, ReadOnce, ReadAll};
 
 // How far it has come, with the line so far: more may follow, or the input has ended. A fault is a read or a write that failed.
-pub enum Reached {
+enum Reached {
     More(Line),
     End(Line),
     Fault,
