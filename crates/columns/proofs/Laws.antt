@@ -6,9 +6,8 @@ use lib.ListN.{length, take, drop, length-take, length-drop}
 use Rattle.record.specs.declared.variant.HgvsVariant.{HgvsVariant}
 use Rattle.grammar.specs.Texts.{allLetters}
 use Rattle.grammar.specs.Values.{Value}
-use Rattle.promise.specs.Outcome.{Outcome}
+use Rattle.promise.specs.Outcome.{Outcome, givenLength}
 use Rattle.promise.specs.Writing.{Writes}
-use Rattle.columns.specs.Given.{givenLength}
 
 module _ {T : Value → List ℕ → Type 0} {source : List ℕ} {v : HgvsVariant} where
   given-inside : (output : List ℕ) {a : Outcome ℕ} {o : List ℕ} → Writes allLetters T source v output a o → givenLength a ≤ length output

@@ -4,8 +4,7 @@ use record::answers::WriteAnswer;
 use record::variant::HgvsVariant;
 ghost use Prim.Native.Nat.{_+_, _≤_};
 ghost use lib.ListN.{length};
-ghost use Rattle.promise.specs.Outcome.{writeOutcome};
-ghost use Rattle.columns.specs.Given.{givenLength};
+ghost use Rattle.promise.specs.Outcome.{writeOutcome, givenLength};
 
 fn refusal(out: &mut [u8], at: usize, number: u32) -> usize
     ensures { λ r. ⌜ r ≤ length (now (out .entry)) ⌝ }

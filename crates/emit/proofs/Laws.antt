@@ -1,27 +1,17 @@
--- Laws behind the proofs.
-use Prim.Native.Nat.{ℕ, _+_, _≤_}
+-- Laws behind the proofs: the words as parts of one text, the letter of a kind.
+use Prim.Native.Nat.{ℕ, _+_}
 use Prim.Native.Char.{code}
-use mathlib.Core.Path.{_≡_, refl, _∙_}
-use mathlib.Core.List.{List, [], _∷_, _++_}
-use native.Mathlib.Omega.{arith}
-use lib.ListN.{length, length-append}
-use Rattle.record.specs.declared.spans.Span.{Span}
+use mathlib.Core.Path.{_≡_, refl}
+use mathlib.Core.List.{[], _∷_}
+use lib.ListN.{length}
 use Rattle.record.specs.declared.variant.Kind.{Kind}
 use Rattle.record.specs.declared.variant.Kind.the-variants.{Cds, Genome, Mt, Tx, Prot, Rna}
-use Rattle.lent.specs.Put.{put, put-put}
 use Rattle.grammar.specs.Spans.{part}
 use Rattle.grammar.specs.Header.{printKind}
 use Rattle.emit.specs.Words.{wordText, words, startOf}
 use Rattle.emit.specs.Texts.{kindLetter}
 use Rattle.emit.specs.declared.Word.{Word}
 use Rattle.emit.specs.declared.Word.the-variants.{Empty, Del, Ins, DelIns, Dup, Inv, Fs, Ext, Equal, Greater, Question, Met1, NoProtein, NoProteinUncertain, NoChangeUncertain}
-
--- two texts, one behind the other, into lent room
-pub then : (o : List ℕ) (at : ℕ) (a b : List ℕ) {u v : List ℕ} {k r : ℕ} → at + length a ≤ length o
-    → (k ≡ at + length a) × (u ≡ put o at a) → (r ≡ k + length b) × (v ≡ put u k b)
-    → (r ≡ at + length (a ++ b)) × (v ≡ put o at (a ++ b))
-then o at a b room first next =
-    (omega (arith, length-append a b, first .0, next .0), next .1 ∙ rw (first .1, first .0) (put-put o at a b room))
 
 word-stands : (w : Word) → part words (record { start = startOf w; end = startOf w + length (wordText w) }) ≡ wordText w
 unfolding part

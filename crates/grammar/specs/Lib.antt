@@ -16,3 +16,5 @@ pub mod NumberLaws
 pub mod Contents
 pub mod Standing
 pub mod ContentLaw
+pub mod SpanLaw
+pub mod PlaceLaw

@@ -26,6 +26,11 @@ writeOutcome W.BadSpan = refused 4 0
 writeOutcome W.NoText = refused 5 0
 writeOutcome W.NoRoom = refused 6 0
 
+-- the length that writing gives; 0 where it refuses
+abbrev pub givenLength : Outcome ℕ → ℕ
+givenLength (given n) = n
+givenLength (refused number place) = 0
+
 abbrev pub widthOutcome : WidthAnswer → Outcome ℕ
 widthOutcome (M.Width width) = given width
 widthOutcome M.TooLong = refused 1 0

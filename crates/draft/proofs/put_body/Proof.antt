@@ -2,7 +2,7 @@
 use native.Mathlib.Omega.{arith}
 use Rattle.draft.specs.Texts.{bodyText}
 use Rattle.draft.specs.Laws.{body-length}
-use Rattle.emit.proofs.Laws.{then}
+use Rattle.lent.specs.Put.{then}
 use borrow.Author.Needs.{needs}
 use Rattle.draft.proofs.put_body.Statement.{statement}
 use Rattle.draft.proofs.put_body.Tie as tie

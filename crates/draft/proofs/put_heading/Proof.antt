@@ -2,7 +2,7 @@
 use native.Mathlib.Omega.{arith}
 use Rattle.draft.specs.Texts.{headingText}
 use Rattle.draft.specs.Laws.{heading-length}
-use Rattle.emit.proofs.Laws.{then}
+use Rattle.lent.specs.Put.{then}
 use borrow.Author.Needs.{needs}
 use Rattle.draft.proofs.put_heading.Statement.{statement}
 use Rattle.draft.proofs.put_heading.Tie as tie

@@ -3,7 +3,7 @@ use native.Mathlib.Omega.{arith}
 use borrow.Author.Needs.{needs}
 use Rattle.emit.specs.Texts.{endText}
 use Rattle.emit.specs.Laws.{end-length}
-use Rattle.emit.proofs.Laws.{then}
+use Rattle.lent.specs.Put.{then}
 use Rattle.emit.proofs.put_end.Statement.{statement}
 use Rattle.emit.proofs.put_end.Tie as tie
 

@@ -3,7 +3,7 @@ use native.Mathlib.Omega.{arith}
 use borrow.Author.Needs.{needs}
 use Rattle.emit.specs.Texts.{placeText}
 use Rattle.emit.specs.Laws.{place-length}
-use Rattle.emit.proofs.Laws.{then}
+use Rattle.lent.specs.Put.{then}
 use Rattle.emit.proofs.put_place.Statement.{statement}
 use Rattle.emit.proofs.put_place.Tie as tie
 

@@ -3,7 +3,7 @@ use native.Mathlib.Omega.{arith}
 use borrow.Author.Needs.{needs}
 use Rattle.emit.specs.Texts.{rowText}
 use Rattle.emit.specs.Laws.{row-length}
-use Rattle.emit.proofs.Laws.{then}
+use Rattle.lent.specs.Put.{then}
 use Rattle.emit.proofs.put_row.Statement.{statement}
 use Rattle.emit.proofs.put_row.Tie as tie
 
