@@ -18,8 +18,6 @@ use record::variant::GenomeLocEdit;
 use record::variant::Header;
 use record::variant::HgvsVariant;
 use record::variant::ProtLocEdit;
-ghost use Prim.Native.Nat.{_≤_};
-ghost use lib.ListN.{length};
 
 // ---- parts of the source `AB_12.3GlyMetArgA?Ter`
 
@@ -91,118 +89,84 @@ fn protein(aa: Span, number: i32, edit: ProteinEdit) -> HgvsVariant {
 
 // ---- lines
 
-fn line(source: &[u8], out: &mut [u8], at: usize, v: HgvsVariant) -> usize
-    ensures { λ r. ⌜ r ≤ length (now (out .entry)) ⌝ }
-{
-    let behind = columns::columns(source, out, at, v);
-    room::byte(out, behind, b'\n')
+fn line(source: &[u8], v: HgvsVariant) {
+    let mut out = io::large_buffer();
+    let behind = columns::columns(source, &mut out, 0, v);
+    let end = room::byte(&mut out, behind, b'\n');
+    io::write_all(STDOUT_FILENO, &out[..end]);
 }
 
-fn na(source: &[u8], out: &mut [u8], at: usize, edit: NaEdit) -> usize
-    ensures { λ r. ⌜ r ≤ length (now (out .entry)) ⌝ }
-{
-    line(source, out, at, genome(edit))
+fn na(source: &[u8], edit: NaEdit) {
+    line(source, genome(edit));
 }
 
-fn subst(source: &[u8], out: &mut [u8], at: usize, aa: Span, number: i32, to: Span) -> usize
-    ensures { λ r. ⌜ r ≤ length (now (out .entry)) ⌝ }
-{
-    line(source, out, at, protein(aa, number, ProteinEdit::Subst(to)))
+fn subst(source: &[u8], aa: Span, number: i32, to: Span) {
+    line(source, protein(aa, number, ProteinEdit::Subst(to)));
 }
 
-fn ext(source: &[u8], out: &mut [u8], at: usize, end: Part, change: UncertainLengthChange) -> usize
-    ensures { λ r. ⌜ r ≤ length (now (out .entry)) ⌝ }
-{
+fn ext(source: &[u8], end: Part, change: UncertainLengthChange) {
     line(
         source,
-        out,
-        at,
         protein(gly(), 2, ProteinEdit::Ext(Part::Absent, end, change)),
-    )
+    );
 }
 
-fn nucleotides(source: &[u8], out: &mut [u8], at: usize) -> usize
-    ensures { λ r. ⌜ r ≤ length (now (out .entry)) ⌝ }
-{
-    let at = na(source, out, at, NaEdit::RefAlt(letter(), nothing()));
-    let at = na(source, out, at, NaEdit::RefAlt(letter(), letter()));
-    let at = na(source, out, at, NaEdit::DelNum(-1));
-    let at = na(source, out, at, NaEdit::NumAlt(3, letter()));
-    let at = na(source, out, at, NaEdit::Ins(nothing()));
-    let at = na(source, out, at, NaEdit::Dup(gly()));
-    let at = na(source, out, at, NaEdit::DelRef(span(17, 16)));
-    na(source, out, at, NaEdit::DelRef(span(20, 22)))
+fn nucleotides(source: &[u8]) {
+    na(source, NaEdit::RefAlt(letter(), nothing()));
+    na(source, NaEdit::RefAlt(letter(), letter()));
+    na(source, NaEdit::DelNum(-1));
+    na(source, NaEdit::NumAlt(3, letter()));
+    na(source, NaEdit::Ins(nothing()));
+    na(source, NaEdit::Dup(gly()));
+    na(source, NaEdit::DelRef(span(17, 16)));
+    na(source, NaEdit::DelRef(span(20, 22)));
 }
 
-fn residues(source: &[u8], out: &mut [u8], at: usize) -> usize
-    ensures { λ r. ⌜ r ≤ length (now (out .entry)) ⌝ }
-{
-    let at = subst(source, out, at, met(), 1, question());
-    let at = subst(source, out, at, gly(), -1, met());
-    let at = subst(source, out, at, gly(), 2, nothing());
-    let at = subst(source, out, at, gly(), 2, mixed());
-    subst(source, out, at, nothing(), 2, met())
+fn residues(source: &[u8]) {
+    subst(source, met(), 1, question());
+    subst(source, gly(), -1, met());
+    subst(source, gly(), 2, nothing());
+    subst(source, gly(), 2, mixed());
+    subst(source, nothing(), 2, met());
 }
 
-fn extensions(source: &[u8], out: &mut [u8], at: usize) -> usize
-    ensures { λ r. ⌜ r ≤ length (now (out .entry)) ⌝ }
-{
-    let at = ext(
+fn extensions(source: &[u8]) {
+    ext(
         source,
-        out,
-        at,
         Part::Present(met()),
         UncertainLengthChange::Known(5),
     );
-    let at = ext(
+    ext(
         source,
-        out,
-        at,
         Part::Present(met()),
         UncertainLengthChange::Known(-5),
     );
-    let at = ext(
+    ext(
         source,
-        out,
-        at,
         Part::Present(ter()),
         UncertainLengthChange::Known(0),
     );
-    let at = ext(
+    ext(
         source,
-        out,
-        at,
         Part::Present(met()),
         UncertainLengthChange::Known(0),
     );
-    let at = ext(
+    ext(source, Part::Absent, UncertainLengthChange::Known(5));
+    ext(
         source,
-        out,
-        at,
-        Part::Absent,
-        UncertainLengthChange::Known(5),
-    );
-    let at = ext(
-        source,
-        out,
-        at,
         Part::Present(nothing()),
         UncertainLengthChange::None,
     );
     ext(
         source,
-        out,
-        at,
         Part::Absent,
         UncertainLengthChange::Known(-2147483648),
-    )
+    );
 }
 
 fn main() {
     let source = b"AB_12.3GlyMetArgA?Ter";
-    let mut out = io::large_buffer();
-    let at = nucleotides(source, &mut out, 0);
-    let at = residues(source, &mut out, at);
-    let at = extensions(source, &mut out, at);
-    io::write_all(STDOUT_FILENO, &out[..at]);
+    nucleotides(source);
+    residues(source);
+    extensions(source);
 }
