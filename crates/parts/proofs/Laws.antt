@@ -1,8 +1,8 @@
--- Laws of tests made one after the other, and of the test on a span.
+-- Laws of the test on a span.
 use Prim.Native.Nat.{ℕ, _+_, _-_, _≤_}
 use mathlib.Core.Path.{_≡_}
 use mathlib.Core.List.{List}
-use mathlib.Core.Bool.{Bool, true, false, _&&_}
+use mathlib.Core.Bool.{true, false}
 use lib.Dec.{leb}
 use lib.ListN.{length, take, drop}
 use borrow.Author.Tests.{leb-true}
@@ -11,13 +11,6 @@ use Rattle.texts.specs.Tests.{and-true}
 use Rattle.record.specs.declared.spans.Span.{Span}
 use Rattle.grammar.specs.Spans.{inside, part}
 use Rattle.parts.specs.Places.{placeOf, IsPart}
-
--- one test, and then another
-pub both-fail : {r a : Bool} (b : Bool) → r ≡ a → r ≡ false → false ≡ a && b
-both-fail b e f = rw (← e, f)
-
-pub both-next : {q r a b : Bool} → q ≡ a → q ≡ true → r ≡ b → r ≡ a && b
-both-next e t f = rw (← e, t) f
 
 module _ (source : RefT (List ℕ)) (p : Span) where
   pub inside-true : inside (length (source .now)) p ≡ true → (p .start ≤ p .end) × (p .end ≤ length (source .now))

@@ -23,6 +23,13 @@ pub and-false : (a : Bool) → a && false ≡ false
 and-false true = refl
 and-false false = refl
 
+-- one test, and then another where it holds
+pub both-fail : {r a : Bool} (b : Bool) → r ≡ a → r ≡ false → false ≡ a && b
+both-fail b e f = rw (← e, f)
+
+pub both-next : {q r a b : Bool} → q ≡ a → q ≡ true → r ≡ b → r ≡ a && b
+both-next e t f = rw (← e, t) f
+
 pub or-true : (a b : Bool) → a || b ≡ true → (a ≡ true) ⊎ (b ≡ true)
 or-true true b e = inl refl
 or-true false b e = inr e

@@ -1,4 +1,4 @@
-use Rattle.parts.proofs.Laws.{both-fail, both-next}
+use Rattle.texts.specs.Tests.{both-fail, both-next}
 use borrow.Author.Needs.{needs}
 use Rattle.plan_na_edit.proofs.is_seq1.Statement.{statement}
 use Rattle.plan_na_edit.proofs.is_seq1.Tie as tie

@@ -1,7 +1,7 @@
 use mir.Syntax.{w32}
 use mir.Val.{SFits}
 use mir.Facts.{toZ-ofZ}
-use Rattle.parts.proofs.Laws.{both-fail, both-next}
+use Rattle.texts.specs.Tests.{both-fail, both-next}
 use borrow.Author.Needs.{needs}
 use Rattle.plan_protein_edit.proofs.is_earlier.Statement.{statement}
 use Rattle.plan_protein_edit.proofs.is_earlier.Tie as tie

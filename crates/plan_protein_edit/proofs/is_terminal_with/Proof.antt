@@ -1,5 +1,5 @@
 use mathlib.Core.Path.{ap, _∙_}
-use Rattle.parts.proofs.Laws.{both-fail, both-next}
+use Rattle.texts.specs.Tests.{both-fail, both-next}
 use Rattle.plan_protein_edit.specs.Plan.{isTerminal}
 use borrow.Author.Needs.{needs}
 use Rattle.plan_protein_edit.proofs.is_terminal_with.Statement.{statement}

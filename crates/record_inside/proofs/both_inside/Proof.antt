@@ -1,5 +1,5 @@
 -- The first test, and where it holds the second.
-use Rattle.parts.proofs.Laws.{both-fail, both-next}
+use Rattle.texts.specs.Tests.{both-fail, both-next}
 use borrow.Author.Needs.{needs}
 use Rattle.record_inside.proofs.both_inside.Statement.{statement}
 use Rattle.record_inside.proofs.both_inside.Tie as tie

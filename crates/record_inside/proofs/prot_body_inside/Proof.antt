@@ -1,6 +1,6 @@
 -- Only a body that is location and edit has spans.
 use Rattle.grammar.specs.Contents.{protBodyInside}
-use Rattle.parts.proofs.Laws.{both-fail, both-next}
+use Rattle.texts.specs.Tests.{both-fail, both-next}
 use Rattle.record_inside.proofs.Laws.{told}
 use borrow.Author.Needs.{needs}
 use Rattle.record_inside.proofs.prot_body_inside.Statement.{statement}

@@ -1,7 +1,7 @@
 -- The accession, the gene, and the body.
 use mathlib.Core.Path.{refl}
 use borrow.Author.Tests.{not-true, not-false}
-use Rattle.parts.proofs.Laws.{both-fail, both-next}
+use Rattle.texts.specs.Tests.{both-fail, both-next}
 use borrow.Author.Needs.{needs}
 use Rattle.record_inside.proofs.spans_inside.Statement.{statement}
 use Rattle.record_inside.proofs.spans_inside.Tie as tie
