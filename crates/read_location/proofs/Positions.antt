@@ -42,10 +42,6 @@ use Rattle.read_location.specs.declared.Mark.{Mark}
 use Rattle.read_location.specs.declared.OffsetRead.{OffsetRead}
 use Rattle.read_location.specs.Answer.{plainOf, basedOf, foundAs, positionAnswer, markOf, offsetAnswer, offsetBehind}
 
--- ---- a part of the text has its place within the 4096 bytes too
-pub room : (at k : ℕ) (s : List ℕ) → at + length s ≤ 4096 → k ≤ length s → at + k + length (take (length s - k) (drop k s)) ≤ 4096
-room at k s h l = rw (tail-part k s, length-drop k s) (omega arith)
-
 -- ---- marks
 module _ (s : List ℕ) where
   pub mark-plus : starts (ascii "+") s ≡ true → markOf plus ≡ markOf (parseMark s)

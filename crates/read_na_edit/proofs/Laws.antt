@@ -9,7 +9,7 @@ use native.Mathlib.Omega.{arith}
 use lib.Dec.{eqb}
 use lib.ListN.{length, getD, take, drop, length-drop}
 use Rattle.texts.specs.Ascii.{ascii}
-use Rattle.texts.specs.Slices.{tail-part}
+use Rattle.texts.specs.Slices.{tail-part, tail-room}
 use Rattle.texts.specs.Runs.{run, front, behind, run-le, front-length}
 use Rattle.texts.specs.Words.{starts, starts-length}
 use Rattle.alphabet.specs.Letters.{digit}
@@ -32,11 +32,11 @@ pub counted-le : (p : ℕ → Bool) (s : List ℕ) (m : ℕ) → m ≡ run p s �
 counted-le p s m e = omega (arith, run-le p s)
 
 -- what is left behind a word of three letters
-pub word-room : (w s : List ℕ) (k : ℕ) → length w ≡ 3 → starts w s ≡ true → k + length s ≤ 4096 → k + 3 + length (take (length s - 3) (drop 3 s)) ≤ 4096
-word-room w s k l e h = rw (tail-part 3 s, length-drop) (omega (arith, starts-length w s e))
-
 pub word-long : (w s : List ℕ) → length w ≡ 3 → starts w s ≡ true → 3 ≤ length s
 word-long w s l e = omega (arith, starts-length w s e)
+
+pub word-room : (w s : List ℕ) (k : ℕ) → length w ≡ 3 → starts w s ≡ true → k + length s ≤ 4096 → k + 3 + length (take (length s - 3) (drop 3 s)) ≤ 4096
+word-room w s k l e h = tail-room k 3 s h (word-long w s l e)
 
 module _ (na : ℕ → Bool) where
   -- ---- the letters behind `ins`

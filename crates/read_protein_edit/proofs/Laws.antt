@@ -8,7 +8,7 @@ use native.Mathlib.Omega.{arith}
 use lib.ListN.{length, take, drop, length-append, length-drop}
 use lib.Seq.{length-take-le}
 use Rattle.texts.specs.Ascii.{ascii}
-use Rattle.texts.specs.Slices.{tail-part}
+use Rattle.texts.specs.Slices.{tail-part, tail-room}
 use Rattle.texts.specs.Words.{starts, starts-length}
 use Rattle.residue.specs.Reading.{residueLen, residuesLen}
 use Rattle.residue.specs.Laws.{residue-le, residues-le}
@@ -119,7 +119,7 @@ module _ (k : ℕ) (s : List ℕ) (n : ℕ) (en : n ≡ residueLen s) where
 
   -- the part behind a word has its place within the 4096 bytes too
   pub word-room : (w : List ℕ) → starts w (tail n s) ≡ true → k + length s ≤ 4096 → k + n + length w + length (tail (length w) (tail n s)) ≤ 4096
-  word-room w h p = rw (tail-tail n (length w) s, length-drop, length-drop) (omega (arith, starts-length w (drop n s) (test w true h), length-drop n s, front-le))
+  word-room w h p = tail-room (k + n) (length w) (tail n s) (tail-room k n s p front-le) (starts-length w (tail n s) h)
 
   -- a word behind it, and the end behind the word
   word-long : (w x : List ℕ) → n + length w + length x ≡ length (printOptional [] (bytesOf n s) ++ (w ++ x))

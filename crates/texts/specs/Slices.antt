@@ -1,5 +1,5 @@
 -- A part of a slice, as the borrow checker states it.
-use Prim.Native.Nat.{ℕ, _+_, _-_}
+use Prim.Native.Nat.{ℕ, _+_, _-_, _≤_}
 use mathlib.Core.Path.{_≡_}
 use mathlib.Core.List.{List}
 use native.Mathlib.Omega.{arith}
@@ -10,6 +10,10 @@ use lib.Seq.{take-all}
 -- `&s[k..]`
 pub tail-part : (k : ℕ) (s : List ℕ) → take (length s - k) (drop k s) ≡ drop k s
 tail-part k s = take-all (length s - k) (drop k s) (rw length-drop (omega arith))
+
+-- it ends where s does, so it lies within a limit too
+pub tail-room : {most : ℕ} (at k : ℕ) (s : List ℕ) → at + length s ≤ most → k ≤ length s → at + k + length (take (length s - k) (drop k s)) ≤ most
+tail-room at k s h l = rw (tail-part k s, length-drop k s) (omega arith)
 
 -- `&s[k..k + n]`
 pub mid-part : (k n : ℕ) (s : List ℕ) → take (k + n - k) (drop k s) ≡ take n (drop k s)

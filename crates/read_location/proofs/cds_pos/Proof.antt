@@ -1,7 +1,8 @@
 use Prim.Native.Nat.{_+_, _≤_}
 use native.Mathlib.Omega.{arith}
 use lib.ListN.{length}
-use Rattle.read_location.proofs.Positions.{room, based-mark, based-number, based-offset, based-none, based-some}
+use Rattle.texts.specs.Slices.{tail-room}
+use Rattle.read_location.proofs.Positions.{based-mark, based-number, based-offset, based-none, based-some}
 use borrow.Author.Needs.{needs}
 use Rattle.read_location.proofs.cds_pos.Statement.{statement}
 use Rattle.read_location.proofs.cds_pos.Tie as tie
@@ -56,7 +57,7 @@ add-offset-at : tie.Need-add-offset-at
 add-offset-at c = omega (arith, number-le (c .before .before .before .before), c .before .before .before .before .before .before .before .before .pre)
 
 offset-at-requires : tie.Need-offset-at-requires
-offset-at-requires c κs = room _ _ (c .before .before .before .before .before .before .before .before .args .s .now) (c .before .before .before .before .before .before .before .before .pre) (number-le (c .before .before .before .before))
+offset-at-requires c κs = tail-room _ _ (c .before .before .before .before .before .before .before .before .args .s .now) (c .before .before .before .before .before .before .before .before .pre) (number-le (c .before .before .before .before))
 
 span-requires : tie.Need-span-requires
 span-requires c κs = search needs

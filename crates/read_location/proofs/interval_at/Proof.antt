@@ -7,7 +7,7 @@ use Rattle.texts.specs.Ascii.{ascii}
 use Rattle.texts.specs.Words.{starts}
 use borrow.Author.Tests.{not-true, not-false}
 use Rattle.read_location.specs.Told.{PositionTold, position-told}
-use Rattle.read_location.proofs.Positions.{room}
+use Rattle.texts.specs.Slices.{tail-room}
 use Rattle.read_location.proofs.Locations.{interval-none, start-le, interval-one, join-le, interval-half, end-le, interval-two}
 use borrow.Author.Needs.{needs}
 use Rattle.read_location.proofs.interval_at.Statement.{statement}
@@ -74,7 +74,7 @@ add-pos-at : tie.Need-add-pos-at
 add-pos-at c = omega (arith, bar-le (c .before), c .before .before .before .before .before .before .before .before .before .before .pre)
 
 pos-at-requires-2 : tie.Need-pos-at-requires-2
-pos-at-requires-2 c κs = room _ _ (c .before .before .before .before .before .before .before .before .before .before .args .s .now) (c .before .before .before .before .before .before .before .before .before .before .pre) (bar-le (c .before))
+pos-at-requires-2 c κs = tail-room _ _ (c .before .before .before .before .before .before .before .before .before .before .args .s .now) (c .before .before .before .before .before .before .before .before .before .before .pre) (bar-le (c .before))
 
 enum-known-end : tie.Need-enum-known-end
 enum-known-end c = search needs

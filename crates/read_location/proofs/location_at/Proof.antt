@@ -7,7 +7,7 @@ use Rattle.texts.specs.Ascii.{ascii}
 use Rattle.texts.specs.Words.{starts}
 use borrow.Author.Tests.{not-true, not-false}
 use Rattle.read_location.specs.Told.{IntervalTold, interval-told}
-use Rattle.read_location.proofs.Positions.{room}
+use Rattle.texts.specs.Slices.{tail-room}
 use Rattle.read_location.proofs.Locations.{location-bare, open-le, open-none, inner-le, open-left, shut-le, open-shut}
 use borrow.Author.Needs.{needs}
 use Rattle.read_location.proofs.location_at.Statement.{statement}
@@ -52,7 +52,7 @@ add-interval-at : tie.Need-add-interval-at
 add-interval-at c = search needs
 
 interval-at-requires-2 : tie.Need-interval-at-requires-2
-interval-at-requires-2 c κs = room _ 1 (c .before .before .before .before .before .args .s .now) (c .before .before .before .before .before .pre) (open-le (c .before .before .before .before .before .args .kind) (c .before .before .before .before .before .args .at) _ (opened (c .before)))
+interval-at-requires-2 c κs = tail-room _ 1 (c .before .before .before .before .before .args .s .now) (c .before .before .before .before .before .pre) (open-le (c .before .before .before .before .before .args .kind) (c .before .before .before .before .before .args .at) _ (opened (c .before)))
 
 enum-known-l : tie.Need-enum-known-l
 enum-known-l c = search needs

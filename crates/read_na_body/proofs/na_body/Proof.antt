@@ -3,7 +3,7 @@ use Prim.Native.Nat.{_+_, _-_, _≤_}
 use mathlib.Core.Path.{_≡_, sym, _∙_}
 use native.Mathlib.Omega.{arith}
 use lib.ListN.{length, take, drop}
-use Rattle.read_location.proofs.Positions.{room}
+use Rattle.texts.specs.Slices.{tail-room}
 use Rattle.read_location.specs.Told.{LocationTold, location-told, location-unread, location-within}
 use Rattle.read_na_body.proofs.Laws.{EditTold, edit-told, edit-none, no-location, no-edit, edit-le, not-ended, body-found}
 use borrow.Author.Needs.{needs}
@@ -42,7 +42,7 @@ add-mu-na-edit-at : tie.Need-add-mu-na-edit-at
 add-mu-na-edit-at c = omega (arith, location-within (loc (c .before .before)), c .before .before .before .before .before .before .pre)
 
 mu-na-edit-at-requires : tie.Need-mu-na-edit-at-requires
-mu-na-edit-at-requires c κs = room _ _ (c .before .before .before .before .before .before .args .s .now) (c .before .before .before .before .before .before .pre) (location-within (loc (c .before .before)))
+mu-na-edit-at-requires c κs = tail-room _ _ (c .before .before .before .before .before .before .args .s .now) (c .before .before .before .before .before .before .pre) (location-within (loc (c .before .before)))
 
 enum-known-edit : tie.Need-enum-known-edit
 enum-known-edit c = search needs

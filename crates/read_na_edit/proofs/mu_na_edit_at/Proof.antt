@@ -3,9 +3,9 @@ use Prim.Native.Nat.{_+_, _≤_}
 use mathlib.Core.Path.{_≡_, sym, _∙_}
 use mathlib.Core.Bool.{true}
 use native.Mathlib.Omega.{arith}
-use lib.ListN.{length, drop, length-drop}
+use lib.ListN.{length, drop}
 use Rattle.texts.specs.Ascii.{ascii}
-use Rattle.texts.specs.Slices.{tail-part}
+use Rattle.texts.specs.Slices.{tail-part, tail-room}
 use Rattle.texts.specs.Words.{starts, starts-length}
 use Rattle.alphabet.specs.Letters.{nucleotide}
 use Rattle.na_edits.specs.Parse.{parseNaEdit}
@@ -54,8 +54,7 @@ add-na-edit-at c = search needs
 na-edit-at-requires : tie.Need-na-edit-at-requires
 na-edit-at-requires c κs =
     let a = c .before .before .before .before .before in
-    let s = a .args .s .now in
-    rw (tail-part 1 s) (omega (arith, length-drop 1 s, starts-length (ascii "(") s (opened (c .before)), a .pre))
+    tail-room _ 1 (a .args .s .now) (a .pre) (starts-length (ascii "(") _ (opened (c .before)))
 
 enum-told : tie.Need-enum-told
 enum-told c = search needs

@@ -6,7 +6,7 @@ use Prim.Native.Nat.{_+_, _-_}
 use lib.ListN.{length, take, drop}
 use Rattle.texts.specs.Ascii.{ascii}
 use Rattle.texts.specs.Words.{starts}
-use Rattle.read_location.proofs.Positions.{room}
+use Rattle.texts.specs.Slices.{tail-room}
 use Rattle.record.specs.declared.variant.Kind.the-variants.{Prot}
 use Rattle.read_location.specs.Told.{IntervalTold, interval-told}
 use Rattle.read_protein_body.proofs.Laws.{opened-none, interval-le, closed-le, shut-found, brackets-found}
@@ -76,7 +76,7 @@ after-location-requires : tie.Need-after-location-requires
 after-location-requires c κs =
     let s = c .before .before .before .before .before .before .before .before .before .before .before .args .s .now in
     let h = closed-le _ _ (ends (c .before .before .before .before .before .before .before)) (shut (c .before .before)) in
-    let r = room (c .before .before .before .before .before .before .before .before .before .before .before .args .at + 1) (c .before .before .before .before .before .before .before .l .given .0 .1 .0 + 1) s (c .before .before .before .before .before .before .before .before .before .before .before .pre) h in
+    let r = tail-room (c .before .before .before .before .before .before .before .before .before .before .before .args .at + 1) (c .before .before .before .before .before .before .before .l .given .0 .1 .0 + 1) s (c .before .before .before .before .before .before .before .before .before .before .before .pre) h in
     (omega arith, omega (arith, c .before .before .before .before .before .before .before .before .before .before .before .pre))
 
 returns-2 : tie.Need-returns-2
@@ -98,7 +98,7 @@ add-inside-brackets-2 : tie.Need-add-inside-brackets-2
 add-inside-brackets-2 c = omega (arith, interval-le _ _ (ends (c .before .before .before .before .before .before)), c .before .before .before .before .before .before .before .before .before .before .pre)
 
 inside-brackets-requires : tie.Need-inside-brackets-requires
-inside-brackets-requires c κs = (room _ _ (c .before .before .before .before .before .before .before .before .before .before .args .s .now) (c .before .before .before .before .before .before .before .before .before .before .pre) (interval-le _ _ (ends (c .before .before .before .before .before .before))), omega (arith, interval-le _ _ (ends (c .before .before .before .before .before .before)), c .before .before .before .before .before .before .before .before .before .before .pre))
+inside-brackets-requires c κs = (tail-room _ _ (c .before .before .before .before .before .before .before .before .before .before .args .s .now) (c .before .before .before .before .before .before .before .before .before .before .pre) (interval-le _ _ (ends (c .before .before .before .before .before .before))), omega (arith, interval-le _ _ (ends (c .before .before .before .before .before .before)), c .before .before .before .before .before .before .before .before .before .before .pre))
 
 returns-3 : tie.Need-returns-3
 returns-3 c = brackets-found _ _ (ends (c .before .before .before .before .before .before .before)) (sym (c .before .before .before .begins .ensures) ∙ c .before .before .if1 .left) _ (c .inside-brackets .ensures)

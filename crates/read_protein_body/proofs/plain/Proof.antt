@@ -3,7 +3,7 @@ use mathlib.Core.Path.{_≡_, sym, _∙_}
 use native.Mathlib.Omega.{arith}
 use Rattle.record.specs.declared.variant.Kind.the-variants.{Prot}
 use Rattle.read_location.specs.Told.{IntervalTold, interval-told}
-use Rattle.read_location.proofs.Positions.{room}
+use Rattle.texts.specs.Slices.{tail-room}
 use Rattle.read_protein_body.proofs.Laws.{plain-none, interval-le, plain-found}
 use borrow.Author.Needs.{needs}
 use Rattle.read_protein_body.proofs.plain.Statement.{statement}
@@ -38,7 +38,7 @@ add-after-location : tie.Need-add-after-location
 add-after-location c = omega (arith, interval-le _ _ (ends (c .before .before)), c .before .before .before .before .before .before .pre)
 
 after-location-requires : tie.Need-after-location-requires
-after-location-requires c κs = (room _ _ (c .before .before .before .before .before .before .args .s .now) (c .before .before .before .before .before .before .pre) (interval-le _ _ (ends (c .before .before))), omega (arith, interval-le _ _ (ends (c .before .before)), c .before .before .before .before .before .before .pre))
+after-location-requires c κs = (tail-room _ _ (c .before .before .before .before .before .before .args .s .now) (c .before .before .before .before .before .before .pre) (interval-le _ _ (ends (c .before .before))), omega (arith, interval-le _ _ (ends (c .before .before)), c .before .before .before .before .before .before .pre))
 
 returns-2 : tie.Need-returns-2
 returns-2 c = plain-found _ _ (ends (c .before .before .before)) _ (c .after-location .ensures)

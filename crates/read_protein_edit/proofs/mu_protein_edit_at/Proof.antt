@@ -3,9 +3,9 @@ use Prim.Native.Nat.{_+_, _≤_}
 use mathlib.Core.Path.{_≡_, sym, _∙_}
 use mathlib.Core.Bool.{true, false}
 use native.Mathlib.Omega.{arith}
-use lib.ListN.{length, length-drop}
+use lib.ListN.{length}
 use Rattle.texts.specs.Ascii.{ascii}
-use Rattle.texts.specs.Slices.{tail-part}
+use Rattle.texts.specs.Slices.{tail-room}
 use Rattle.texts.specs.Words.{starts, starts-length}
 use Rattle.protein_edits.specs.Parse.{parse}
 use Rattle.read_protein_edit.specs.declared.ProteinEditRead.the-variants.{Found}
@@ -50,7 +50,7 @@ add-protein-edit-at c = search needs
 protein-edit-at-requires : tie.Need-protein-edit-at-requires
 protein-edit-at-requires c κs =
     let a = c .before .before .before .before .before in
-    rw (tail-part 1 (a .args .s .now), length-drop) (omega (arith, a .pre, starts-length (ascii "(") _ (opened (c .before))))
+    tail-room _ 1 (a .args .s .now) (a .pre) (starts-length (ascii "(") _ (opened (c .before)))
 
 enum-told : tie.Need-enum-told
 enum-told c = search needs

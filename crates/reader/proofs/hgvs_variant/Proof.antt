@@ -5,7 +5,7 @@ use mathlib.Core.Option.{some}
 use Prim.Native.Nat.{_+_, _-_}
 use lib.ListN.{length, take, drop}
 use Rattle.headers.specs.Kinds.{kindLang}
-use Rattle.read_location.proofs.Positions.{room}
+use Rattle.texts.specs.Slices.{tail-room}
 use Rattle.reader.proofs.Laws.{HeaderTold, header-told, no-header, header-le, kind-told, no-kind, kind-le, no-body, text-found}
 use borrow.Author.Needs.{needs}
 use Rattle.reader.proofs.hgvs_variant.Statement.{statement}
@@ -64,7 +64,7 @@ part-body-at-end : tie.Need-part-body-at-end
 part-body-at-end c = search needs
 
 body-at-requires : tie.Need-body-at-requires
-body-at-requires c κs = omega (arith, room 0 (c .before .before .before .before .before .before .before .header .given .0 .1 .0 + 3) (c .before .before .before .before .before .before .before .before .before .before .before .args .s .now) (omega (arith, c .before .before .before .before .before .before .before .before .before .before .before .pre)) (kind-le _ (head (c .before .before .before .before .before .before .before)) (letter (c .before .before))))
+body-at-requires c κs = omega (arith, tail-room {most = 4096} 0 (c .before .before .before .before .before .before .before .header .given .0 .1 .0 + 3) (c .before .before .before .before .before .before .before .before .before .before .before .args .s .now) (omega (arith, c .before .before .before .before .before .before .before .before .before .before .before .pre)) (kind-le _ (head (c .before .before .before .before .before .before .before)) (letter (c .before .before))))
 
 enum-known-body : tie.Need-enum-known-body
 enum-known-body c = search needs
