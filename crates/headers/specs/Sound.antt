@@ -11,9 +11,9 @@ use lib.ListN.{length, drop}
 use lib.Seq.{drop-append-seam}
 use borrow.Author.Tests.{leb-true, le-leb}
 use Rattle.texts.specs.Ascii.{ascii}
-use Rattle.texts.specs.Tests.{and-true, right-or, never, clash, none-some, cond-some}
+use Rattle.texts.specs.Tests.{and-true, right-or, none-some, cond-some}
 use Rattle.texts.specs.Words.{starts, starts-split}
-use Rattle.texts.specs.Runs.{Some, run, front, behind, run-is, front-is, behind-is, run-nil, run-first, run-head, front-behind, front-length, front-every}
+use Rattle.texts.specs.Runs.{Some, run, front, behind, run-is, front-is, behind-is, run-first, run-narrower, front-behind, front-length, front-every}
 use Rattle.alphabet.specs.Letters.{letter, digit, alphanumeric}
 use Rattle.grammar.specs.Optional.{printOptional, WfOptional}
 use Rattle.grammar.specs.Header.{Accession, Accession.accession, printAccession, WfAccession, printGene, Header, Header.header, printHeader, WfHeader}
@@ -32,11 +32,6 @@ pub record StopAccession (r : List ℕ) : Type 0 where
 run-optional : (p : ℕ → Bool) (b : ℕ) (o : Option (List ℕ)) (r : List ℕ) → p b ≡ false → run p r ≡ 0 → run p (printOptional (b ∷ []) o ++ r) ≡ 0
 run-optional p b none r e stop = stop
 run-optional p b (some x) r e stop = run-first p b (x ++ r) e
-
--- where no byte is of a wide kind, none is of a narrower one
-run-narrower : (p q : ℕ → Bool) → ((b : ℕ) → p b ≡ true → q b ≡ true) → (r : List ℕ) → run q r ≡ 0 → run p r ≡ 0
-run-narrower p q h [] e = run-nil p
-run-narrower p q h (b ∷ r) e = run-first p b r (never (p b) (λ t. clash (h b t) (run-head q b r e)))
 
 digit-alphanumeric : (b : ℕ) → digit b ≡ true → alphanumeric b ≡ true
 unfolding alphanumeric

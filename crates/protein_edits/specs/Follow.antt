@@ -8,7 +8,7 @@ use lib.Dec.{eqb}
 use borrow.Author.Tests.{eqb-true}
 use Rattle.texts.specs.Ascii.{ascii}
 use Rattle.texts.specs.Tests.{and-true, left-or, right-or, never, clash}
-use Rattle.texts.specs.Runs.{every, run, run-nil, run-first, run-head}
+use Rattle.texts.specs.Runs.{every, run, run-nil, run-first, run-head, run-narrower}
 use Rattle.texts.specs.Words.{starts}
 use Rattle.alphabet.specs.Letters.{among, digit, residue}
 use Rattle.alphabet.specs.Apart.{among-every}
@@ -33,18 +33,14 @@ unfolding goesOn residue digit
 stop-close r = stop-first (code ")") r refl
 
 -- ---- so nothing of an edit follows
-narrower : (p q : ℕ → Bool) → ((b : ℕ) → p b ≡ true → q b ≡ true) → (r : List ℕ) → run q r ≡ 0 → run p r ≡ 0
-narrower p q h [] e = run-nil p
-narrower p q h (b ∷ r) e = run-first p b r (never (p b) (λ t. clash (h b t) (run-head q b r e)))
-
 module _ (r : List ℕ) (st : Stops r) where
   pub no-residue : run residue r ≡ 0
   unfolding goesOn
-  no-residue = narrower residue goesOn (λ b h. left-or (digit b || among b (ascii "aefhilrsy?-")) h) r (st .ends)
+  no-residue = run-narrower residue goesOn (λ b h. left-or (digit b || among b (ascii "aefhilrsy?-")) h) r (st .ends)
 
   pub no-digit : run digit r ≡ 0
   unfolding goesOn
-  no-digit = narrower digit goesOn (λ b h. right-or (residue b) (left-or (among b (ascii "aefhilrsy?-")) h)) r (st .ends)
+  no-digit = run-narrower digit goesOn (λ b h. right-or (residue b) (left-or (among b (ascii "aefhilrsy?-")) h)) r (st .ends)
 
 -- a word does not start a text that starts with no byte of the word's kind
 pub no-start : (p : ℕ → Bool) (c : ℕ) (w r : List ℕ) → p c ≡ true → run p r ≡ 0 → starts (c ∷ w) r ≡ false

@@ -8,7 +8,7 @@ use native.Mathlib.Nat.{add-zero}
 use native.Mathlib.Numerals.{add-one}
 use lib.ListN.{length, getD, take, drop, take-append-drop, drop-of-length-le}
 use lib.Seq.{drop-cons, length-take-le, take-append-seam, drop-append-seam, take-length}
-use Rattle.texts.specs.Tests.{and-true, true-and, clash}
+use Rattle.texts.specs.Tests.{and-true, true-and, never, clash}
 
 -- every byte passes
 unfoldable pub every : (ℕ → Bool) → List ℕ → Bool
@@ -145,6 +145,11 @@ run-head p b s e = go (p b) refl
     go : (t : Bool) → p b ≡ t → p b ≡ false
     go false q = q
     go true q = absurd (let z : suc (run p s) ≡ 0 = rw (q, run) at e in omega arith)
+
+-- where no byte of a wide kind stands, none of a narrower one does
+pub run-narrower : (p q : ℕ → Bool) → ((b : ℕ) → p b ≡ true → q b ≡ true) → (r : List ℕ) → run q r ≡ 0 → run p r ≡ 0
+run-narrower p q h [] e = run-nil p
+run-narrower p q h (b ∷ r) e = run-first p b r (never (p b) (λ t. clash (h b t) (run-head q b r e)))
 
 -- a text that starts with bytes of one kind has no run of another kind
 pub run-other : (p q : ℕ → Bool) (a r : List ℕ) → ((b : ℕ) → p b ≡ true → q b ≡ false) → Some p a → run q (a ++ r) ≡ 0
