@@ -10,7 +10,6 @@ use Rattle.record.specs.declared.answers.WriteAnswer.the-variants.{Written, Too
 use Rattle.grammar.specs.Spans.{part}
 use Rattle.grammar.specs.Header.{printKind}
 use Rattle.emit.specs.Texts.{markText, rowText, placeText}
-use Rattle.emit.specs.Laws.{kind-length}
 use Rattle.draft.specs.declared.Heading.{Heading}
 use Rattle.draft.specs.declared.Body.{Body}
 use Rattle.draft.specs.declared.Draft.{Draft}
@@ -20,9 +19,6 @@ module _ (s : List ℕ) where
   pub heading-length : (h : Heading) → length (headingText s h) ≡ length (part s (h .accession)) + length (markText (h .opening)) + length (part s (h .gene)) + length (markText (h .closing)) + length (printKind (h .kind))
   unfolding headingText
   heading-length h = simp length-append (omega arith)
-
-  pub heading-short : (h : Heading) → length (printKind (h .kind)) ≡ 3
-  heading-short h = kind-length (h .kind)
 
   pub body-length : (b : Body) → length (bodyText s b) ≡ length (placeText s (b .place)) + length (markText (b .opening)) + length (rowText s (b .row)) + length (markText (b .closing))
   unfolding bodyText

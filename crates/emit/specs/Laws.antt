@@ -7,10 +7,7 @@ use native.Mathlib.Omega.{arith}
 use lib.ListN.{length, length-append, length-take, length-drop}
 use lib.Dec.{leb·zero}
 use Rattle.record.specs.declared.spans.Span.{Span}
-use Rattle.record.specs.declared.variant.Kind.{Kind}
-use Rattle.record.specs.declared.variant.Kind.the-variants.{Cds, Genome, Mt, Tx, Prot, Rna}
 use Rattle.grammar.specs.Spans.{inside, part}
-use Rattle.grammar.specs.Header.{printKind}
 use Rattle.emit.specs.Words.{wordText}
 use Rattle.emit.specs.Texts.{markText, amountText, rowText, endText, placeText, noSpan, noRow, noEnd}
 use Rattle.emit.specs.declared.Row.{Row}
@@ -53,11 +50,3 @@ module _ (s : List ℕ) where
   pub no-end : endText s noEnd ≡ []
   unfolding endText
   no-end = rw no-part
-
-pub kind-length : (k : Kind) → length (printKind k) ≡ 3
-kind-length Cds = refl
-kind-length Genome = refl
-kind-length Mt = refl
-kind-length Tx = refl
-kind-length Prot = refl
-kind-length Rna = refl

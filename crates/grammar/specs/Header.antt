@@ -1,9 +1,10 @@
 -- Document 01, "The header". Its digits are text and no number.
 use Prim.Native.Nat.{ℕ}
-use mathlib.Core.Path.{_≡_}
+use mathlib.Core.Path.{_≡_, refl}
 use mathlib.Core.List.{List, [], _∷_, _++_}
 use mathlib.Core.Option.{Option, none, some}
 use mathlib.Core.Bool.{true}
+use lib.ListN.{length}
 use Rattle.texts.specs.Ascii.{ascii}
 use Rattle.texts.specs.Runs.{Some}
 use Rattle.alphabet.specs.Letters.{letter, digit, alphanumeric}
@@ -34,6 +35,14 @@ printKind Mt = ascii ":m."
 printKind Tx = ascii ":n."
 printKind Prot = ascii ":p."
 printKind Rna = ascii ":r."
+
+pub kind-length : (k : Kind) → length (printKind k) ≡ 3
+kind-length Cds = refl
+kind-length Genome = refl
+kind-length Mt = refl
+kind-length Tx = refl
+kind-length Prot = refl
+kind-length Rna = refl
 
 pub data Header : Type 0 where
   header : Accession → Option (List ℕ) → Header

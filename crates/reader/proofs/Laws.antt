@@ -12,7 +12,7 @@ use Rattle.record.specs.declared.variant.Kind.the-variants.{Cds, Genome, Mt, Tx
 use Rattle.record.specs.declared.variant.Header as Record
 use Rattle.record.specs.declared.variant.Body as RecordBody
 use Rattle.record.specs.declared.variant.HgvsVariant.{HgvsVariant}
-use Rattle.grammar.specs.Header.{Header, printHeader, printKind}
+use Rattle.grammar.specs.Header.{Header, printHeader, printKind, kind-length}
 use Rattle.grammar.specs.Shapes.{Both, Both.both}
 use Rattle.grammar.specs.Bodies.{Body}
 use Rattle.grammar.specs.Texts.{Text, Text.text, print, Wf, allLetters}
@@ -104,14 +104,6 @@ kind-told s k e = go (kindLang .parse s) refl e
     go : (o : Option Kind) → kindLang .parse s ≡ o → KR.Found k ≡ kindAnswer o → kindLang .parse s ≡ some k
     go none q h = absurd (let z : _≡_ {A = ℕ} 0 1 = cc in omega arith)
     go (some t) q h = let j : t ≡ k = cc in q ∙ ap some j
-
-kind-length : (k : Kind) → length (printKind k) ≡ 3
-kind-length Cds = refl
-kind-length Genome = refl
-kind-length Mt = refl
-kind-length Tx = refl
-kind-length Prot = refl
-kind-length Rna = refl
 
 module _ (s : List ℕ) {h : Record.Header} {n : ℕ} (x : HeaderTold s h n) where
   pub header-le : n ≤ length s

@@ -1,6 +1,7 @@
 -- `draft::heading_len` meets its contract.
 use native.Mathlib.Omega.{arith}
-use Rattle.draft.specs.Laws.{heading-length, heading-short}
+use Rattle.grammar.specs.Header.{kind-length}
+use Rattle.draft.specs.Laws.{heading-length}
 use borrow.Author.Needs.{needs}
 use Rattle.draft.proofs.heading_len.Statement.{statement}
 use Rattle.draft.proofs.heading_len.Tie as tie
@@ -32,7 +33,7 @@ add-result-4 c = search needs
 returns : tie.Need-returns
 returns c =
     let a = c .before .before .before .before .before .before .before .args in
-    (omega (arith, heading-length (a .source .now) (a .h), heading-short (a .source .now) (a .h)), omega arith)
+    (omega (arith, heading-length (a .source .now) (a .h), kind-length (a .h .kind)), omega arith)
 
 pub heading-len-spec : {M : Type 1} → statement M
 heading-len-spec =

@@ -1,6 +1,6 @@
 use native.Mathlib.Omega.{arith}
 use borrow.Author.Needs.{needs}
-use Rattle.emit.specs.Laws.{kind-length}
+use Rattle.grammar.specs.Header.{kind-length}
 use Rattle.emit.proofs.Laws.{kind-text}
 use Rattle.emit.proofs.put_kind.Statement.{statement}
 use Rattle.emit.proofs.put_kind.Tie as tie
