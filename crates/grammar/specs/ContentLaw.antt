@@ -23,7 +23,7 @@ use Rattle.grammar.specs.Meaning.{number, lengthOf, meaningPosition, mea
 use Rattle.grammar.specs.Spans.{part, optionalPart}
 use Rattle.grammar.specs.Records.{span, spanOf, partOf, protAt, positionAt, interval, intervalAt, locationAt, certainly, uncertainly, naEditAt, muNaEditAt, fsAt, extAt, proteinEditAt, muProteinEditAt, proteinBodyAt, bodyAt, headerAt, recordAt}
 use Rattle.grammar.specs.Contents.{positionContent, intervalContent, locationContent, naEditContent, muNaEditContent, proteinEditContent, muProteinEditContent, protBodyContent, bodyContent, headerContent, content}
-use Rattle.grammar.specs.Standing.{Stands, left, right, stands-part, stands-whole}
+use Rattle.grammar.specs.Standing.{Stands, left, right, inner, stands-part, stands-whole}
 
 module _ (s : List ℕ) where
   -- ---- locations
@@ -70,10 +70,6 @@ module _ (s : List ℕ) where
   location-uncertain Tx i = refl
   location-uncertain Prot i = refl
   location-uncertain Rna i = refl
-
-  -- what stands between brackets
-  inner : {k : ℕ} {x : List ℕ} → Stands s k (ascii "(" ++ (x ++ ascii ")")) → Stands s (k + 1) x
-  inner {x = x} h = left x _ (right (ascii "(") h)
 
   location-content : (kind : Kind) (k : ℕ) (l : Location kind) → Stands s k (printLocation kind l) → locationContent s kind (locationAt kind k l) ≡ mapMu (meaningEnds kind) l
   location-content kind k (certain i) h = location-certain kind (intervalAt kind k i) ∙ ap certain (ends-content kind k i h)

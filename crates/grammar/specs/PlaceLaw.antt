@@ -22,8 +22,7 @@ use Rattle.grammar.specs.ProteinEdits.{ProteinEdit, Length, Length.count
 use Rattle.grammar.specs.Bodies.{Ends, printEnds, printLocation, NaBody, ProteinBody, ProteinBody.met1, ProteinBody.bracketedMet1, ProteinBody.noProteinUncertain, ProteinBody.noProtein, ProteinBody.noChangeUncertain, ProteinBody.noChange, ProteinBody.unknown, ProteinBody.change, ProteinBody.bracketed, Body, printNaBody, printBody, printProteinBody}
 use Rattle.grammar.specs.Texts.{Text, Text.text, print}
 use Rattle.grammar.specs.Numbers.{Numeral, Numeral.numeral, misfit, offsetNumbers, basedNumbers, genomicNumbers, residualNumbers, positionNumbers, endsNumbers, muNumbers, naEditNumbers, stopNumbers, fsNumbers, extNumbers, proteinEditNumbers, naBodyNumbers, proteinBodyNumbers, bodyNumbers, numbersAt}
-use Rattle.grammar.specs.Standing.{Stands, left, right, stands-end, stands-whole}
-use Rattle.grammar.specs.SpanLaw.{inner}
+use Rattle.grammar.specs.Standing.{Stands, left, right, inner, stands-end, stands-whole}
 
 module _ (s : List ℕ) where
   -- the place of each lies in the source
@@ -80,7 +79,7 @@ module _ (s : List ℕ) where
   mu-within : {A : Type 0} (show : A → List ℕ) (numbers : ℕ → A → List Numeral) → ((k : ℕ) (a : A) → Stands s k (show a) → Within (numbers k a))
       → (k : ℕ) (a : Mu A) → Stands s k (printMu show a) → Within (muNumbers numbers k a)
   mu-within show numbers f k (certain a) h = f k a h
-  mu-within show numbers f k (uncertain a) h = f (k + 1) a (inner s h)
+  mu-within show numbers f k (uncertain a) h = f (k + 1) a (inner h)
 
   -- ---- edits
   na-edit-within : (k : ℕ) (e : NaEdit) → Stands s k (printNaEdit e) → Within (naEditNumbers k e)
@@ -141,8 +140,8 @@ module _ (s : List ℕ) where
       (mu-within printProteinEdit proteinEditNumbers protein-edit-within (k + length (printLocation Prot l)) e (right (printLocation Prot l) h))
   protein-body-within k (bracketed (both i e)) h =
       within-both (endsNumbers Prot (k + 1) i) (proteinEditNumbers (k + 1 + length (printEnds Prot i)) e)
-      (ends-within Prot (k + 1) i (left (printEnds Prot i) _ (inner s h)))
-      (protein-edit-within (k + 1 + length (printEnds Prot i)) e (right (printEnds Prot i) (inner s h)))
+      (ends-within Prot (k + 1) i (left (printEnds Prot i) _ (inner h)))
+      (protein-edit-within (k + 1 + length (printEnds Prot i)) e (right (printEnds Prot i) (inner h)))
 
   body-within : (kind : Kind) (k : ℕ) (b : Body kind) → Stands s k (printBody kind b) → Within (bodyNumbers kind k b)
   body-within Cds = na-body-within Cds

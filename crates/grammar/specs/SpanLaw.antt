@@ -22,15 +22,11 @@ use Rattle.grammar.specs.Texts.{Text, Text.text, print}
 use Rattle.grammar.specs.Spans.{inside, insideOptional}
 use Rattle.grammar.specs.Records.{span, partOf, protAt, locationAt, naEditAt, muNaEditAt, fsAt, extAt, proteinEditAt, muProteinEditAt, proteinBodyAt, bodyAt, recordAt}
 use Rattle.grammar.specs.Contents.{protLocationInside, naEditInside, muNaEditInside, proteinEditInside, muProteinEditInside, protBodyInside, bodyInside, spansInside}
-use Rattle.grammar.specs.Standing.{Stands, left, right, stands-inside, stands-whole}
+use Rattle.grammar.specs.Standing.{Stands, left, right, inner, stands-inside, stands-whole}
 
 module _ (s : List ℕ) where
   abbrev n : ℕ
   n = length s
-
-  -- what stands between brackets
-  pub inner : {k : ℕ} {x : List ℕ} → Stands s k (ascii "(" ++ (x ++ ascii ")")) → Stands s (k + 1) x
-  inner {x = x} h = left x _ (right (ascii "(") h)
 
   -- ---- locations of p; the others have no span
   residue-inside : (k : ℕ) (p : Residual) → Stands s k (printPosition Prot p) → inside n (protAt k p .aa) ≡ true

@@ -9,6 +9,7 @@ use borrow.Author.Tests.{le-leb}
 use lib.Dec.{leb}
 use lib.ListN.{length, take, drop, length-append}
 use lib.Seq.{take-at, drop-at}
+use Rattle.texts.specs.Ascii.{ascii}
 use Rattle.grammar.specs.Spans.{inside, part}
 use Rattle.grammar.specs.Records.{spanOf}
 
@@ -41,6 +42,10 @@ module _ {s : List ℕ} {k : ℕ} where
   stands-part {x} h =
       rw (stands-inside h, add-sub-cancel-left, ← h .text, drop-at (h .before) (x ++ h .after) k (h .place))
       (take-at x (h .after) (length x) refl)
+
+-- what stands between brackets
+pub inner : {s : List ℕ} {k : ℕ} {x : List ℕ} → Stands s k (ascii "(" ++ (x ++ ascii ")")) → Stands s (k + 1) x
+inner {x = x} h = left x _ (right (ascii "(") h)
 
 -- a text stands in itself at 0
 pub stands-whole : (x : List ℕ) → Stands x 0 x
