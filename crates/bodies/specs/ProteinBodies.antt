@@ -15,14 +15,11 @@ use Rattle.record.specs.declared.variant.Kind.the-variants.{Prot}
 use Rattle.grammar.specs.Shapes.{Mu, Mu.certain, Mu.uncertain, Both, Both.both, printMu, printBoth}
 use Rattle.grammar.specs.ProteinEdits.{ProteinEdit, printProteinEdit, WfProteinEdit}
 use Rattle.grammar.specs.Bodies.{Ends, printEnds, WfEnds, printLocation, WfLocation, ProteinBody, ProteinBody.met1, ProteinBody.bracketedMet1, ProteinBody.noProteinUncertain, ProteinBody.noProtein, ProteinBody.noChangeUncertain, ProteinBody.noChange, ProteinBody.unknown, ProteinBody.change, ProteinBody.bracketed, printProteinBody, WfProteinBody, NotMet1}
+use Rattle.lang.specs.Choice.{orNext}
 use Rattle.lang.specs.Lang.{Front, Lang, rest-is}
 use Rattle.lang.specs.Canon.{mapO}
 use Rattle.location.specs.Languages.{endsLang}
 use Rattle.protein_edits.specs.Instance.{proteinEditLang, muProteinEditLang}
-
-abbrev pub orNext : {A : Type 0} → Option A → Option A → Option A
-orNext none o = o
-orNext (some a) o = some a
 
 -- ---- the texts without location
 abbrev pub exactBodies : List ProteinBody

@@ -19,6 +19,7 @@ use Rattle.record.specs.declared.variant.Kind.the-variants.{Prot}
 use Rattle.grammar.specs.Shapes.{Mu, Mu.certain, Mu.uncertain, Both, Both.both, printMu, WfMu}
 use Rattle.grammar.specs.ProteinEdits.{ProteinEdit, printProteinEdit, WfProteinEdit}
 use Rattle.grammar.specs.Bodies.{Ends, printEnds, WfEnds, printLocation, WfLocation, ProteinBody, ProteinBody.met1, ProteinBody.bracketedMet1, ProteinBody.noProteinUncertain, ProteinBody.noProtein, ProteinBody.noChangeUncertain, ProteinBody.noChange, ProteinBody.unknown, ProteinBody.change, ProteinBody.bracketed, printProteinBody, WfProteinBody, NotMet1}
+use Rattle.lang.specs.Choice.{orNext}
 use Rattle.lang.specs.Lang.{Front, Lang, rest-is}
 use Rattle.lang.specs.IntervalLang.{StopInterval, parseInterval}
 use Rattle.lang.specs.Canon.{mapO, map-some}
@@ -31,7 +32,7 @@ use Rattle.location.specs.Languages.{posLang, endsLang, ends-stop-at, brackets}
 use Rattle.protein_edits.specs.Instance.{proteinEditLang, muProteinEditLang}
 use Rattle.protein_edits.specs.Follow.{stop-nil, stop-close}
 use Rattle.protein_edits.specs.First.{firsts, Head, edit-head, mu-head, head-word}
-use Rattle.bodies.specs.ProteinBodies.{orNext, exactBodies, firstExact, afterLocation, closing, insideBrackets, onEnds, parseOpened, parsePlain, parseOrdinary, ended, parseProteinBody}
+use Rattle.bodies.specs.ProteinBodies.{exactBodies, firstExact, afterLocation, closing, insideBrackets, onEnds, parseOpened, parsePlain, parseOrdinary, ended, parseProteinBody}
 
 -- ---- complete
 -- an edit may stand behind an interval

@@ -1,3 +1,4 @@
+pub mod Choice
 pub mod Lang
 pub mod Whole
 pub mod MuLang

@@ -1,4 +1,4 @@
--- Parsers put together: the first of two that finds something, what stands behind a word, and what is made of bytes where there are any.
+-- Parsers put together: what stands behind a word, and what is made of bytes where there are any.
 use Prim.Native.Nat.{ℕ, _≤_}
 use mathlib.Core.Path.{_≡_, refl}
 use mathlib.Core.List.{List, [], _∷_, _++_}
@@ -8,11 +8,6 @@ use native.Mathlib.Omega.{arith}
 use lib.ListN.{length, drop}
 use Rattle.texts.specs.Tests.{none-some}
 use Rattle.texts.specs.Words.{starts, starts-split}
-
--- what the first finds, else what the second finds
-abbrev pub orElse : {A : Type 0} → Option A → Option A → Option A
-orElse none u = u
-orElse (some a) u = some a
 
 -- what f makes of the text behind the word w, where the text begins with it
 abbrev pub onWord : {A : Type 0} → List ℕ → (List ℕ → A) → List ℕ → Option A
@@ -24,11 +19,6 @@ onSome other made [] = other
 onSome other made (b ∷ s) = made (b ∷ s)
 
 module _ {A : Type 0} where
-  -- by which of two it came
-  pub or-cases : {B : Type 0} (o u : Option A) {t : A} → orElse o u ≡ some t → (o ≡ some t → B) → (u ≡ some t → B) → B
-  or-cases none u e f g = g e
-  or-cases (some a) u e f g = f e
-
   -- what is found where a test lets it through
   pub if-holds : (P : A → Type 0) (b : Bool) (u t : A) → cond b (some u) none ≡ some t → (b ≡ true → P u) → P t
   if-holds P true u t e g = let i : u ≡ t = cc in rw (← i) (g refl)

@@ -11,7 +11,8 @@ use Rattle.texts.specs.Runs.{front, behind}
 use Rattle.texts.specs.Words.{starts}
 use Rattle.alphabet.specs.Letters.{digit}
 use Rattle.grammar.specs.NucleotideEdits.{NaEdit, NaEdit.equal, NaEdit.swap, NaEdit.delIns, NaEdit.delNumIns, NaEdit.delNum, NaEdit.del, NaEdit.ins, NaEdit.dup, NaEdit.invNum, NaEdit.inv}
-use Rattle.na_edits.specs.Choice.{orElse, onWord, onSome}
+use Rattle.lang.specs.Choice.{orNext}
+use Rattle.na_edits.specs.Choice.{onWord, onSome}
 
 module _ (na : ℕ → Bool) where
   unfoldable pub parseIdent : List ℕ → Option NaEdit
@@ -50,4 +51,4 @@ module _ (na : ℕ → Bool) where
   parseInv = onWord (ascii "inv") afterInv
 
   unfoldable pub parseNaEdit : List ℕ → Option NaEdit
-  parseNaEdit s = orElse (parseIdent s) (orElse (parseSubst s) (orElse (parseDel s) (orElse (parseIns s) (orElse (parseDup s) (parseInv s)))))
+  parseNaEdit s = orNext (parseIdent s) (orNext (parseSubst s) (orNext (parseDel s) (orNext (parseIns s) (orNext (parseDup s) (parseInv s)))))

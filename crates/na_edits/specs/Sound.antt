@@ -16,9 +16,10 @@ use Rattle.texts.specs.Words.{starts, starts-split}
 use Rattle.alphabet.specs.Letters.{letter, digit}
 use Rattle.grammar.specs.Positions.{Digits}
 use Rattle.grammar.specs.NucleotideEdits.{NaEdit, NaEdit.equal, NaEdit.swap, NaEdit.delIns, NaEdit.delNumIns, NaEdit.delNum, NaEdit.del, NaEdit.ins, NaEdit.dup, NaEdit.invNum, NaEdit.inv, printNaEdit, WfNaEdit}
+use Rattle.lang.specs.Choice.{next-cases}
 use Rattle.lang.specs.Lang.{Front, Lang}
 use Rattle.na_edits.specs.Alphabet.{Alphabet, outside, no-digit}
-use Rattle.na_edits.specs.Choice.{onSome, or-cases, if-holds, word-holds, on-some, on-holds}
+use Rattle.na_edits.specs.Choice.{onSome, if-holds, word-holds, on-some, on-holds}
 use Rattle.na_edits.specs.Parse.{parseIdent, parseSubst, inserted, afterDelNum, afterDel, afterInv, parseDel, parseIns, parseDup, parseInv, parseNaEdit}
 
 -- what may follow an edit: no letter, no digit, no `ins`
@@ -259,11 +260,11 @@ module _ (na : ℕ → Bool) where
   pub sound : (s : List ℕ) (t : NaEdit) → parseNaEdit na s ≡ some t → Front printNaEdit (WfNaEdit na) s t
   unfolding parseNaEdit parseDel parseDup parseInv
   sound s t h =
-      or-cases (parseIdent na s) _ h (ident-sound s t) (λ h.
-      or-cases (parseSubst na s) _ h (subst-sound s t) (λ h.
-      or-cases (parseDel na s) _ h (word-holds (ascii "del") (afterDel na) FrontEdit after-del-sound s t) (λ h.
-      or-cases (parseIns na s) _ h (ins-sound s t) (λ h.
-      or-cases (parseDup na s) _ h (word-holds (ascii "dup") (λ x. dup (front na x)) FrontEdit (λ x. word-run na (ascii "dup") x (dup (front na x)) (front-every na x) refl) s t)
+      next-cases (parseIdent na s) _ h (ident-sound s t) (λ h.
+      next-cases (parseSubst na s) _ h (subst-sound s t) (λ h.
+      next-cases (parseDel na s) _ h (word-holds (ascii "del") (afterDel na) FrontEdit after-del-sound s t) (λ h.
+      next-cases (parseIns na s) _ h (ins-sound s t) (λ h.
+      next-cases (parseDup na s) _ h (word-holds (ascii "dup") (λ x. dup (front na x)) FrontEdit (λ x. word-run na (ascii "dup") x (dup (front na x)) (front-every na x) refl) s t)
       (word-holds (ascii "inv") (afterInv na) FrontEdit after-inv-sound s t)))))
 
 module _ (na : ℕ → Bool) (al : Alphabet na) where

@@ -23,9 +23,9 @@ use Rattle.grammar.specs.Contents.{proteinEditContent}
 use Rattle.grammar.specs.Optional.{printOptional}
 use Rattle.grammar.specs.ProteinEdits.{Terminal, Terminal.ter, Terminal.x, Terminal.star, Length, Length.counted, Length.unknown, Length.unsaid, Stop.stop, ExtEnd, ExtEnd.nothing, ExtEnd.later, ExtEnd.earlier, ProteinEdit.subst, ProteinEdit.substUnknown, ProteinEdit.equal, ProteinEdit.del, ProteinEdit.dup, ProteinEdit.ins, ProteinEdit.delIns, ProteinEdit.fs, ProteinEdit.ext, printTerminal, printLength, printStop, printFsEnd, printExtEnd, printProteinEdit}
 use Rattle.grammar.specs.Values.{ProteinEditV.substV}
+use Rattle.lang.specs.Choice.{orNext}
 use Rattle.lang.specs.Canon.{mapO, bothO}
 use Rattle.protein_edits.specs.Canon.{canonTerminal, canonLength, canonStop, canonFsEnd, canonEarlier, canonExtEnd, canonProteinEdit}
-use Rattle.protein_edits.specs.Parse.{orNext}
 use Rattle.emit.specs.declared.Word.{Word}
 use Rattle.emit.specs.declared.Word.the-variants.{Empty, Del, Ins, DelIns, Dup, Fs, Ext, Equal}
 use Rattle.emit.specs.declared.Mark.{Mark}

@@ -11,8 +11,8 @@ use Rattle.record.specs.declared.edits.UncertainLengthChange.{UncertainLengthCh
 use Rattle.record.specs.declared.edits.UncertainLengthChange.the-variants.{None, Unknown, Known}
 use Rattle.grammar.specs.ProteinEdits.{Terminal, Terminal.ter, Terminal.x, Terminal.star, Length, Length.counted, Length.unknown, Length.unsaid, Stop, Stop.stop, ExtEnd, ExtEnd.nothing, ExtEnd.later, ExtEnd.earlier, ProteinEdit, ProteinEdit.subst, ProteinEdit.substUnknown, ProteinEdit.equal, ProteinEdit.del, ProteinEdit.dup, ProteinEdit.ins, ProteinEdit.delIns, ProteinEdit.fs, ProteinEdit.ext}
 use Rattle.grammar.specs.Values.{ProteinEditV, ProteinEditV.fsV, ProteinEditV.extV, ProteinEditV.substV, ProteinEditV.delInsV, ProteinEditV.insPV, ProteinEditV.delV, ProteinEditV.dupPV, ProteinEditV.identV}
+use Rattle.lang.specs.Choice.{orNext}
 use Rattle.lang.specs.Canon.{mapO, bothO}
-use Rattle.protein_edits.specs.Parse.{orNext}
 
 unfoldable pub canonTerminal : List ℕ → Option Terminal
 canonTerminal w = cond (same w (ascii "Ter")) (some ter) (cond (same w (ascii "X")) (some x) (cond (same w (ascii "*")) (some star) none))

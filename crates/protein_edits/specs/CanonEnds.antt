@@ -5,7 +5,6 @@ use mathlib.Core.Path.{_≡_, refl, ap, _∙_}
 use mathlib.Core.List.{List, [], _++_}
 use mathlib.Core.Option.{Option, none, some}
 use mathlib.Core.Bool.{Bool, true, false}
-use mathlib.Core.Logic.{⊎-elim}
 use lib.IntN.{ℤ}
 use lib.ListN.{length}
 use Rattle.texts.specs.Ascii.{ascii}
@@ -29,8 +28,8 @@ use Rattle.grammar.specs.Values.{ProteinEditV, ProteinEditV.fsV, ProteinEditV.e
 use Rattle.grammar.specs.Meaning.{number, lengthOf, meaningFs, meaningExt}
 use Rattle.grammar.specs.Numbers.{Numeral, misfit, lengthNumbers, stopNumbers, fsNumbers, extNumbers}
 use Rattle.grammar.specs.NumberLaws.{one-fits, fits-one}
+use Rattle.lang.specs.Choice.{next-cases}
 use Rattle.lang.specs.Canon.{mapO, map-some, both-some}
-use Rattle.protein_edits.specs.Sound.{next-some}
 use Rattle.protein_edits.specs.Canon.{canonTerminal, canonLength, canonStop, canonFsEnd, isOptional, canonEarlier, canonExtEnd}
 
 -- a part of an edit that is what the value says
@@ -176,7 +175,7 @@ pub ext-right : (r w : Option (List ℕ)) (v : UncertainLengthChange) (e : ExtEn
 ext-right r none None e h = let i : nothing ≡ e = cc in rw (← i) (record { wf = tt; fit = λ k. refl; means = refl })
 ext-right r none Unknown e h = absurd (none-some h)
 ext-right r none (Known z) e h = earlier-right r none (Known z) e h
-ext-right r (some w) v e h = ⊎-elim with-terminal (earlier-right r (some w) v e) (next-some (mapO later (canonStop w v)) (canonEarlier (some w) v) e h)
+ext-right r (some w) v e h = next-cases (mapO later (canonStop w v)) (canonEarlier (some w) v) h with-terminal (earlier-right r (some w) v e)
   where
     with-terminal : mapO later (canonStop w v) ≡ some e → PartRight WfExtEnd extNumbers (meaningExt r) (extV r (some w) v) e
     with-terminal q =

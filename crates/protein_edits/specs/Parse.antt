@@ -11,17 +11,13 @@ use Rattle.texts.specs.Words.{starts}
 use Rattle.alphabet.specs.Letters.{digit}
 use Rattle.residue.specs.Reading.{residueLen, residuesLen}
 use Rattle.grammar.specs.ProteinEdits.{Terminal, Terminal.ter, Terminal.x, Terminal.star, Length, Length.counted, Length.unknown, Length.unsaid, Stop, Stop.stop, ExtEnd, ExtEnd.nothing, ExtEnd.later, ExtEnd.earlier, ProteinEdit, ProteinEdit.subst, ProteinEdit.substUnknown, ProteinEdit.equal, ProteinEdit.del, ProteinEdit.dup, ProteinEdit.ins, ProteinEdit.delIns, ProteinEdit.fs, ProteinEdit.ext, printTerminal}
+use Rattle.lang.specs.Choice.{orNext}
 use Rattle.lang.specs.Canon.{mapO}
 
 -- what was found, else another
 abbrev pub orElse : {A : Type 0} → Option A → A → A
 orElse none b = b
 orElse (some a) b = a
-
--- the next alternative where one finds nothing
-abbrev pub orNext : {A : Type 0} → Option A → Option A → Option A
-orNext none o = o
-orNext (some a) o = some a
 
 -- the n bytes at the front of s, where there are some
 unfoldable pub bytesOf : ℕ → List ℕ → Option (List ℕ)

@@ -4,7 +4,6 @@ use mathlib.Core.Path.{_≡_, refl, sym, ap, _∙_}
 use mathlib.Core.List.{List, [], _++_, append-assoc}
 use mathlib.Core.Option.{Option, none, some}
 use mathlib.Core.Bool.{Bool, true, false, cond}
-use mathlib.Core.Logic.{_⊎_, inl, inr, ⊎-elim}
 use lib.Dec.{eqb}
 use lib.ListN.{length, take, drop, take-append-drop}
 use borrow.Author.Tests.{eqb-true, eqb-false}
@@ -19,8 +18,9 @@ use Rattle.residue.specs.Laws.{residue-sound, residues-sound}
 use Rattle.grammar.specs.Optional.{printOptional, WfOptional}
 use Rattle.grammar.specs.ProteinEdits.{Residue, Terminal, Terminal.ter, Terminal.x, Terminal.star, Stop, ExtEnd, ExtEnd.earlier, ProteinEdit, ProteinEdit.subst, ProteinEdit.substUnknown, ProteinEdit.equal, ProteinEdit.del, ProteinEdit.dup, ProteinEdit.ins, ProteinEdit.delIns, ProteinEdit.fs, ProteinEdit.ext, printTerminal, printLength, printStop, printFsEnd, printExtEnd, printProteinEdit, WfLength, WfStop, WfFsEnd, WfExtEnd, WfProteinEdit}
 use Rattle.lang.specs.Lang.{Front}
+use Rattle.lang.specs.Choice.{orNext, next-cases}
 use Rattle.lang.specs.Canon.{mapO, map-some}
-use Rattle.protein_edits.specs.Parse.{orNext, bytesOf, terminalAt, lengthAt, stopBehind, stopAt, earlierWith, earlierAt, laterOf, extEndAt, residuesBehind, insertedAt, wordedAt, parseWith, parse}
+use Rattle.protein_edits.specs.Parse.{bytesOf, terminalAt, lengthAt, stopBehind, stopAt, earlierWith, earlierAt, laterOf, extEndAt, residuesBehind, insertedAt, wordedAt, parseWith, parse}
 use Rattle.protein_edits.specs.Complete.{no-insert}
 
 -- ---- n bytes at the front
@@ -149,21 +149,22 @@ only-word u t s w q e =
 made-sound : (f : List ℕ → ProteinEdit) (o : Option (List ℕ)) (s : List ℕ) (t : ProteinEdit) → ((a : List ℕ) → o ≡ some a → Front printProteinEdit WfProteinEdit s (f a)) → mapO f o ≡ some t → Front printProteinEdit WfProteinEdit s t
 made-sound f o s t k h = let m = map-some f o t h in rw (← m .1 .1) (k (m .0) (m .1 .0))
 
-pub next-some : {A : Type 0} (o u : Option A) (a : A) → orNext o u ≡ some a → (o ≡ some a) ⊎ (u ≡ some a)
-next-some none u a e = inr e
-next-some (some b) u a e = inl e
-
 worded-sound : (s : List ℕ) (t : ProteinEdit) → wordedAt s ≡ some t → Front printProteinEdit WfProteinEdit s t
 unfolding wordedAt
 worded-sound s t h =
-    ⊎-elim (made-sound delIns (insertedAt (ascii "delins") s) s t (λ rs e. let f = inserted-sound (ascii "delins") s rs e in record { wf = f .wf; after = f .after; text = f .text })) (go (starts (ascii "del") s) refl) (next-some (mapO delIns (insertedAt (ascii "delins") s)) _ t h)
+    next-cases (mapO delIns (insertedAt (ascii "delins") s)) _ h
+    (made-sound delIns (insertedAt (ascii "delins") s) s t (λ rs e. let f = inserted-sound (ascii "delins") s rs e in record { wf = f .wf; after = f .after; text = f .text }))
+    (go (starts (ascii "del") s) refl)
   where
     found-dup : cond (starts (ascii "dup") s) (some dup) none ≡ some t → Front printProteinEdit WfProteinEdit s t
     found-dup q = let c = cond-some (starts (ascii "dup") s) (some dup) t q in only-word dup t s tt (c .1) (c .0)
 
     go : (b : Bool) → starts (ascii "del") s ≡ b → cond (starts (ascii "del") s) (some del) (orNext (mapO ins (insertedAt (ascii "ins") s)) (cond (starts (ascii "dup") s) (some dup) none)) ≡ some t → Front printProteinEdit WfProteinEdit s t
     go true e q = only-word del t s tt (rw e at q) e
-    go false e q = ⊎-elim (made-sound ins (insertedAt (ascii "ins") s) s t (λ rs i. let f = inserted-sound (ascii "ins") s rs i in record { wf = f .wf; after = f .after; text = f .text })) found-dup (next-some (mapO ins (insertedAt (ascii "ins") s)) (cond (starts (ascii "dup") s) (some dup) none) t (rw e at q))
+    go false e q =
+        next-cases (mapO ins (insertedAt (ascii "ins") s)) (cond (starts (ascii "dup") s) (some dup) none) (rw e at q)
+        (made-sound ins (insertedAt (ascii "ins") s) s t (λ rs i. let f = inserted-sound (ascii "ins") s rs i in record { wf = f .wf; after = f .after; text = f .text }))
+        found-dup
 
 subst-sound : (s : List ℕ) (t : ProteinEdit) → mapO subst (bytesOf (residueLen s) s) ≡ some t → Front printProteinEdit WfProteinEdit s t
 subst-sound s t = made-sound subst (bytesOf (residueLen s) s) s t (λ r e. let f = bytes-sound Residue (residueLen s) s r (residue-sound s) e in record { wf = f .wf; after = f .after; text = f .text })
@@ -192,4 +193,4 @@ sound s t h = go (starts (ascii "fs") y) (starts (ascii "ext") y) (starts (ascii
     go false false true d ea eb ec ed = only-word equal t s tt (rw (ea, eb, ec, parse, parseWith) at h) ec
     go false false false true ea eb ec ed = only-word substUnknown t s tt (rw (ea, eb, ec, ed, parse, parseWith) at h) ed
     go false false false false ea eb ec ed =
-        ⊎-elim (subst-sound s t) (worded-sound s t) (next-some (mapO subst (bytesOf n s)) (wordedAt s) t (rw (ea, eb, ec, ed, parse, parseWith) at h))
+        next-cases (mapO subst (bytesOf n s)) (wordedAt s) (rw (ea, eb, ec, ed, parse, parseWith) at h) (subst-sound s t) (worded-sound s t)

@@ -16,7 +16,8 @@ use Rattle.alphabet.specs.Letters.{digit}
 use Rattle.grammar.specs.NucleotideEdits.{NaEdit, NaEdit.equal, NaEdit.swap, NaEdit.delIns, NaEdit.delNumIns, NaEdit.delNum, NaEdit.del, NaEdit.ins, NaEdit.invNum, NaEdit.inv}
 use Rattle.record.specs.declared.edits.NaEdit as D
 use Rattle.scan.specs.declared.Faults.{Faults}
-use Rattle.na_edits.specs.Choice.{orElse, onWord, on-none, on-some}
+use Rattle.lang.specs.Choice.{orNext}
+use Rattle.na_edits.specs.Choice.{onWord, on-none, on-some}
 use Rattle.na_edits.specs.Parse.{parseIdent, parseSubst, inserted, afterDelNum, afterDel, afterInv, parseIns}
 use Rattle.read_na_edit.specs.declared.NaEditRead.{NaEditRead}
 use Rattle.read_na_edit.specs.declared.NaEditRead.the-variants.{Nothing, Found}
@@ -151,18 +152,18 @@ module _ (k : ℕ) (w : List ℕ) (f : List ℕ → NaEdit) (s : List ℕ) where
 
 -- ---- the first of two that finds something
 module _ (k : ℕ) (o u : Option NaEdit) (r : NaEditRead) (e : r ≡ naEditAnswer k o) where
-  pub or-found : (t : D.NaEdit) (n : ℕ) (f : Faults) → r ≡ Found t n f → r ≡ naEditAnswer k (orElse o u)
+  pub or-found : (t : D.NaEdit) (n : ℕ) (f : Faults) → r ≡ Found t n f → r ≡ naEditAnswer k (orNext o u)
   unfolding naEditAnswer
   or-found t n f h = go o e
     where
-      go : (o : Option NaEdit) → r ≡ naEditAnswer k o → r ≡ naEditAnswer k (orElse o u)
+      go : (o : Option NaEdit) → r ≡ naEditAnswer k o → r ≡ naEditAnswer k (orNext o u)
       go none e = absurd (let z : _≡_ {A = ℕ} 0 1 = cc in omega arith)
       go (some t) e = e
 
-  pub or-nothing : r ≡ Nothing → naEditAnswer k u ≡ naEditAnswer k (orElse o u)
+  pub or-nothing : r ≡ Nothing → naEditAnswer k u ≡ naEditAnswer k (orNext o u)
   unfolding naEditAnswer
   or-nothing h = go o e
     where
-      go : (o : Option NaEdit) → r ≡ naEditAnswer k o → naEditAnswer k u ≡ naEditAnswer k (orElse o u)
+      go : (o : Option NaEdit) → r ≡ naEditAnswer k o → naEditAnswer k u ≡ naEditAnswer k (orNext o u)
       go none e = refl
       go (some t) e = absurd (let z : _≡_ {A = ℕ} 0 1 = cc in omega arith)

@@ -28,7 +28,7 @@ use Rattle.lang.specs.Lang.{within}
 use Rattle.lang.specs.Canon.{mapO}
 use Rattle.location.specs.Languages.{endsLang}
 use Rattle.protein_edits.specs.Instance.{proteinEditLang, muProteinEditLang}
-use Rattle.bodies.specs.ProteinBodies.{exactBodies, firstExact, onEnds, insideBrackets, afterLocation, closing, parsePlain, parseOpened, parseOrdinary, ended, orNext, parseProteinBody}
+use Rattle.bodies.specs.ProteinBodies.{exactBodies, firstExact, onEnds, insideBrackets, afterLocation, closing, parsePlain, parseOpened, parseOrdinary, ended, parseProteinBody}
 use Rattle.scan.specs.declared.Faults.{Faults}
 use Rattle.scan.specs.Faults.{faults, first, faults-append, faults-nil, none as noFaults}
 use Rattle.read_location.specs.declared.Location.{Location}

@@ -5,7 +5,7 @@ use mathlib.Core.List.{List}
 use mathlib.Core.Option.{Option}
 use Rattle.alphabet.specs.Letters.{nucleotide}
 use Rattle.grammar.specs.NucleotideEdits.{NaEdit}
-use Rattle.na_edits.specs.Choice.{orElse}
+use Rattle.lang.specs.Choice.{orNext}
 use Rattle.na_edits.specs.Parse.{parseIdent, parseSubst, parseDel, parseIns, parseDup, parseInv, parseNaEdit}
 use Rattle.read_na_edit.specs.Answer.{naEditAnswer}
 use Rattle.read_na_edit.proofs.Laws.{or-found, or-nothing}
@@ -15,16 +15,16 @@ use Rattle.read_na_edit.proofs.na_edit_at.Tie as tie
 
 -- the alternatives from one on
 abbrev fromDup : List ℕ → Option NaEdit
-fromDup s = orElse (parseDup nucleotide s) (parseInv nucleotide s)
+fromDup s = orNext (parseDup nucleotide s) (parseInv nucleotide s)
 
 abbrev fromIns : List ℕ → Option NaEdit
-fromIns s = orElse (parseIns nucleotide s) (fromDup s)
+fromIns s = orNext (parseIns nucleotide s) (fromDup s)
 
 abbrev fromDel : List ℕ → Option NaEdit
-fromDel s = orElse (parseDel nucleotide s) (fromIns s)
+fromDel s = orNext (parseDel nucleotide s) (fromIns s)
 
 abbrev fromSubst : List ℕ → Option NaEdit
-fromSubst s = orElse (parseSubst nucleotide s) (fromDel s)
+fromSubst s = orNext (parseSubst nucleotide s) (fromDel s)
 
 -- the answer is that of the alternatives that are left
 abbrev Left : tie.Start → (List ℕ → Option NaEdit) → Type 0
