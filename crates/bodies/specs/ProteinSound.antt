@@ -41,8 +41,8 @@ unfolding digit every
 follows s h =
     rw (h .text)
     (ends-stop-at Prot (h .byte) (h .rest)
-    (among-none digit (h .byte) (code "(" ∷ firsts) refl (h .one))
-    (among-none (λ c. among c (ascii "+-_")) (h .byte) (code "(" ∷ firsts) refl (h .one)))
+    (among-none digit (h .byte) (code "(" ∷ firsts) refl (h .holds))
+    (among-none (λ c. among c (ascii "+-_")) (h .byte) (code "(" ∷ firsts) refl (h .holds)))
 
 mu-follows : (e : Mu ProteinEdit) (r : List ℕ) → WfMu WfProteinEdit e → StopInterval (posLang Prot) (printMu printProteinEdit e ++ r)
 mu-follows e r w = follows _ (mu-head e r w)

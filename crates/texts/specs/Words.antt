@@ -52,6 +52,16 @@ starts-take [] s = refl
 starts-take (x ∷ w) [] = refl
 starts-take (x ∷ w) (y ∷ s) = ap (λ (t : Bool). eqb x y && t) (starts-take w s)
 
+-- s starts with a byte of which P holds
+pub record StartsWith (P : ℕ → Type 0) (s : List ℕ) : Type 0 where
+  pub byte : ℕ
+  pub rest : List ℕ
+  pub text : s ≡ byte ∷ rest
+  pub holds : P byte
+
+pub starts-with : {P : ℕ → Type 0} (b : ℕ) (r : List ℕ) → P b → StartsWith P (b ∷ r)
+starts-with b r h = record { byte = b; rest = r; text = refl; holds = h }
+
 -- ---- one byte more, as a loop goes
 module _ (w s : List ℕ) (i : ℕ) (h : i < length w) where
   pub starts-short : length s ≤ i → starts (drop i w) (drop i s) ≡ false
