@@ -39,6 +39,10 @@ module _ (place : ℕ) (sign : Sign) (ds : List ℕ) where
   pub fits-one : val ds ≤ most sign → misfit (numeral place sign ds ∷ []) ≡ none
   fits-one h = rw (le-leb (val ds) (most sign) h)
 
+-- it fits wherever it stands
+pub one-anywhere : (j k : ℕ) (sign : Sign) (ds : List ℕ) → misfit (numeral j sign ds ∷ []) ≡ none → misfit (numeral k sign ds ∷ []) ≡ none
+one-anywhere j k sign ds e = fits-one k sign ds (one-fits j sign ds e)
+
 -- ---- two rows
 pub fit-append : (ms ns : List Numeral) → allFit (ms ++ ns) ≡ allFit ms && allFit ns
 unfolding allFit

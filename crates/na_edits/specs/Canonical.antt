@@ -1,6 +1,6 @@
 -- The tree that canon gives is one of the value, its text is best among all trees of the value, and where it gives none there is none.
-use Prim.Native.Nat.{ℕ, _+_, _≤_, _<_}
-use mathlib.Core.Path.{_≡_, refl, sym}
+use Prim.Native.Nat.{ℕ, _+_, _<_}
+use mathlib.Core.Path.{_≡_, refl}
 use mathlib.Core.List.{List, [], _∷_}
 use mathlib.Core.Option.{none, some}
 use mathlib.Core.Bool.{Bool, true, false, _&&_}
@@ -18,7 +18,6 @@ use Rattle.number.specs.Digits.{val, dec}
 use Rattle.number.specs.Decimals.{dec-value, dec-some, dec-best}
 use Rattle.number.specs.Reading.{most, fits}
 use Rattle.number.specs.Signs.{saturated-fit}
-use Rattle.number.specs.declared.Sign.{Sign}
 use Rattle.number.specs.declared.Sign.the-variants.{Plain}
 use Rattle.grammar.specs.Shapes.{Mu, Mu.certain, Mu.uncertain, WfMu}
 use Rattle.grammar.specs.NucleotideEdits.{NaEdit, NaEdit.equal, NaEdit.swap, NaEdit.delIns, NaEdit.delNumIns, NaEdit.delNum, NaEdit.del, NaEdit.ins, NaEdit.dup, NaEdit.invNum, NaEdit.inv, printNaEdit, WfNaEdit}
@@ -26,6 +25,7 @@ use Rattle.grammar.specs.Values as Values
 use Rattle.grammar.specs.Values.{NaEditV, NaEditV.refAlt, NaEditV.numAlt, NaEditV.delRef, NaEditV.insV, NaEditV.dupV, NaEditV.invRef}
 use Rattle.grammar.specs.Meaning.{number, meaningNaEdit}
 use Rattle.grammar.specs.Numbers.{Numeral.numeral, misfit, naEditNumbers, muNumbers}
+use Rattle.grammar.specs.NumberLaws.{one-fits, fits-one, one-anywhere}
 use Rattle.lang.specs.Canon.{Canon, Right, Covered}
 use Rattle.lang.specs.MuCanon.{mu-canon}
 use Rattle.na_edits.specs.Alphabet.{Alphabet}
@@ -35,17 +35,6 @@ use Rattle.na_edits.specs.Brackets.{brackets, muNaEditLang}
 use Rattle.na_edits.specs.Canon.{ones, canonRefAlt, counted, canonNaEdit}
 
 -- ---- numbers that fit
--- one number fits, wherever it stands
-one-fits : (k : ℕ) (sign : Sign) (ds : List ℕ) → misfit (numeral k sign ds ∷ []) ≡ none → val ds ≤ most sign
-one-fits k sign ds e = go (fits sign (val ds)) refl
-  where
-    go : (b : Bool) → fits sign (val ds) ≡ b → val ds ≤ most sign
-    go true q = leb-true _ _ q
-    go false q = absurd (none-some (sym (rw q at e)))
-
-fits-one : (k : ℕ) (sign : Sign) (ds : List ℕ) → val ds ≤ most sign → misfit (numeral k sign ds ∷ []) ≡ none
-fits-one k sign ds h = rw (le-leb (val ds) (most sign) h)
-
 abbrev pub FitsNaEdit : NaEdit → Type 0
 FitsNaEdit t = misfit (naEditNumbers 0 t) ≡ none
 
@@ -54,12 +43,12 @@ pub fits-anywhere : (j k : ℕ) (t : NaEdit) → misfit (naEditNumbers j t) ≡ 
 fits-anywhere j k (equal seq) e = refl
 fits-anywhere j k (swap a b) e = refl
 fits-anywhere j k (delIns seq seq1) e = refl
-fits-anywhere j k (delNumIns ds seq1) e = fits-one (k + 3) Plain ds (one-fits (j + 3) Plain ds e)
-fits-anywhere j k (delNum ds) e = fits-one (k + 3) Plain ds (one-fits (j + 3) Plain ds e)
+fits-anywhere j k (delNumIns ds seq1) e = one-anywhere (j + 3) (k + 3) Plain ds e
+fits-anywhere j k (delNum ds) e = one-anywhere (j + 3) (k + 3) Plain ds e
 fits-anywhere j k (del seq) e = refl
 fits-anywhere j k (ins seq1) e = refl
 fits-anywhere j k (dup seq) e = refl
-fits-anywhere j k (invNum ds) e = fits-one (k + 3) Plain ds (one-fits (j + 3) Plain ds e)
+fits-anywhere j k (invNum ds) e = one-anywhere (j + 3) (k + 3) Plain ds e
 fits-anywhere j k (inv seq) e = refl
 
 -- the decimal text of a number that fits

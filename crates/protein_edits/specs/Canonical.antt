@@ -1,7 +1,7 @@
 -- The tree that canon gives is one of the value, its text is best among all trees of the value, and where it gives none there is none.
 use Prim.Native.Nat.{ℕ, _+_}
 use mathlib.Core.Path.{_≡_, refl, sym, ap, _∙_}
-use mathlib.Core.List.{List, [], _∷_}
+use mathlib.Core.List.{List, []}
 use mathlib.Core.Option.{Option, none, some}
 use mathlib.Core.Bool.{Bool, true, false, cond}
 use lib.ListN.{length}
@@ -10,7 +10,6 @@ use Rattle.texts.specs.Best.{best-refl, best-behind}
 use Rattle.texts.specs.Tests.{cond-some}
 use Rattle.texts.specs.Words.{same, same-true}
 use Rattle.number.specs.Reading.{fits}
-use Rattle.number.specs.declared.Sign.{Sign}
 use Rattle.number.specs.declared.Sign.the-variants.{Plain, Negated}
 use Rattle.alphabet.specs.Letters.{residue}
 use Rattle.residue.specs.Rows.{rows}
@@ -20,8 +19,8 @@ use Rattle.grammar.specs.Shapes.{Mu, Mu.certain, Mu.uncertain}
 use Rattle.grammar.specs.ProteinEdits.{Length, Length.counted, Length.unknown, Length.unsaid, Stop, Stop.stop, ExtEnd, ExtEnd.nothing, ExtEnd.later, ExtEnd.earlier, ProteinEdit, ProteinEdit.subst, ProteinEdit.substUnknown, ProteinEdit.equal, ProteinEdit.del, ProteinEdit.dup, ProteinEdit.ins, ProteinEdit.delIns, ProteinEdit.fs, ProteinEdit.ext, printTerminal, WfProteinEdit}
 use Rattle.grammar.specs.Values.{ProteinEditV, ProteinEditV.fsV, ProteinEditV.extV, ProteinEditV.substV, ProteinEditV.delInsV, ProteinEditV.insPV, ProteinEditV.delV, ProteinEditV.dupPV, ProteinEditV.identV}
 use Rattle.grammar.specs.Meaning.{meaningFs, meaningExt, meaningProteinEdit}
-use Rattle.grammar.specs.Numbers.{Numeral.numeral, misfit, lengthNumbers, stopNumbers, fsNumbers, extNumbers, proteinEditNumbers, muNumbers}
-use Rattle.grammar.specs.NumberLaws.{one-fits, fits-one}
+use Rattle.grammar.specs.Numbers.{misfit, lengthNumbers, stopNumbers, fsNumbers, extNumbers, proteinEditNumbers, muNumbers}
+use Rattle.grammar.specs.NumberLaws.{one-anywhere}
 use Rattle.lang.specs.Canon.{Canon, Right, Covered, mapO, map-some}
 use Rattle.lang.specs.MuCanon.{mu-canon}
 use Rattle.protein_edits.specs.Instance.{proteinEditLang, brackets, muProteinEditLang}
@@ -32,9 +31,6 @@ abbrev pub FitsProteinEdit : ProteinEdit → Type 0
 FitsProteinEdit t = misfit (proteinEditNumbers 0 t) ≡ none
 
 -- ---- whether an edit's number fits does not depend on where the edit stands
-one-anywhere : (j k : ℕ) (sign : Sign) (ds : List ℕ) → misfit (numeral j sign ds ∷ []) ≡ none → misfit (numeral k sign ds ∷ []) ≡ none
-one-anywhere j k sign ds e = fits-one k sign ds (one-fits j sign ds e)
-
 length-anywhere : (j k : ℕ) (n : Length) → misfit (lengthNumbers j n) ≡ none → misfit (lengthNumbers k n) ≡ none
 length-anywhere j k (counted ds) e = one-anywhere j k Plain ds e
 length-anywhere j k unknown e = refl
