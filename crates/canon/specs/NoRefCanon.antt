@@ -10,6 +10,7 @@ use borrow.Author.Tests.{eqb-true}
 use Rattle.texts.specs.Tests.{clash, and-true, cond-some}
 use Rattle.texts.specs.Runs.{every}
 use Rattle.texts.specs.Words.{same}
+use Rattle.number.specs.Written.{unsignedDigits}
 use Rattle.record.specs.declared.variant.Kind.{Kind}
 use Rattle.record.specs.declared.variant.Kind.the-variants.{Cds, Genome, Mt, Tx, Prot, Rna}
 use Rattle.grammar.specs.Header.{Header, printHeader, printKind}
@@ -19,12 +20,12 @@ use Rattle.grammar.specs.Bodies.{Location, printLocation, NaBody, printNaBody}
 use Rattle.grammar.specs.Texts.{Text, Text.text, print}
 use Rattle.grammar.specs.Values.{NaEditV, NaEditV.refAlt, NaEditV.numAlt, NaEditV.delRef, NaEditV.delNum, NaEditV.insV, NaEditV.dupV, NaEditV.invRef, NaEditV.invNum, EndsV, NaBodyV, HeaderV, BodyV, Value, Value.value}
 use Rattle.grammar.specs.Meaning.{mapMu}
-use Rattle.lang.specs.Canon.{canon-some, map-some, bothO, both-some}
+use Rattle.lang.specs.Canon.{canon-some, mapO, map-some, bothO, both-some}
 use Rattle.location.specs.Languages.{locationLang}
 use Rattle.location.specs.Canonical.{locationCanon}
 use Rattle.location.specs.Fits.{location-fits, fits-location}
 use Rattle.na_edits.specs.Alphabet.{Alphabet}
-use Rattle.na_edits.specs.Canon.{canonNaEdit, canonRefAlt, counted}
+use Rattle.na_edits.specs.Canon.{canonNaEdit, canonRefAlt}
 use Rattle.na_edits.specs.Canonical.{one-is, muNaEditCanon}
 use Rattle.headers.specs.Sound.{headerLang}
 use Rattle.headers.specs.Canonical.{canonHeader, headerCanon}
@@ -96,7 +97,7 @@ module _ (na : ℕ → Bool) where
   unfolding every
   edit-found (refAlt a b) t e = no-ref-alt a b t e
   edit-found (numAlt n b) t e =
-      let h = cond-some (every na b && leb 1 (length b)) (counted (λ ds. delNumIns ds b) n) t e in
+      let h = cond-some (every na b && leb 1 (length b)) (mapO (λ ds. delNumIns ds b) (unsignedDigits n)) t e in
       let w = and-true (every na b) (leb 1 (length b)) (h .0) in
       record { tree = delIns [] b; found = no-ref-letters b (w .0) (w .1); text = refl }
   edit-found (delRef a) t e = record { tree = del []; found = refl; text = refl }

@@ -4,10 +4,8 @@ use mathlib.Core.List.{List}
 use mathlib.Core.Option.{Option, none, some}
 use mathlib.Core.Bool.{cond}
 use lib.IntN.{ℤ, pos, negsuc}
-use Rattle.number.specs.declared.Sign.{Sign}
 use Rattle.number.specs.declared.Sign.the-variants.{Plain, Minus}
-use Rattle.number.specs.Digits.{dec}
-use Rattle.number.specs.Reading.{fits}
+use Rattle.number.specs.Written.{digitsOf, unsignedDigits}
 use Rattle.residue.specs.Residues.{isResidue}
 use Rattle.record.specs.declared.variant.Kind.{Kind}
 use Rattle.record.specs.declared.variant.Kind.the-variants.{Cds, Genome, Mt, Tx, Prot, Rna}
@@ -20,15 +18,6 @@ use Rattle.record.specs.declared.positions.MtPos.the-variants as M
 use Rattle.grammar.specs.Positions.{Mark, Mark.bare, Mark.minus, Mark.star, Offset, Offset.absent, Offset.ahead, Offset.back, Based, Based.based, Genomic, Genomic.known, Genomic.unknown, Residual.residual, Position}
 use Rattle.grammar.specs.Values.{ProtPosV.protPosV, PositionV}
 use Rattle.lang.specs.Canon.{mapO, bothO}
-
--- the decimal text, where digits of the value fit with the sign
-abbrev pub digitsOf : Sign → ℕ → Option (List ℕ)
-digitsOf sign v = cond (fits sign v) (some (dec v)) none
-
--- of an unsigned number
-abbrev pub unsignedDigits : ℤ → Option (List ℕ)
-unsignedDigits (pos v) = digitsOf Plain v
-unsignedDigits (negsuc v) = none
 
 -- `+0` for an offset of 0
 abbrev pub canonOffset : Declared.Offset → Option Offset

@@ -8,16 +8,16 @@ use native.Mathlib.Omega.{arith}
 use lib.Dec.{lit<}
 use lib.IntN.{ℤ, pos, negsuc}
 use lib.ListN.{length}
-use borrow.Author.Tests.{le-leb, leb-true}
+use borrow.Author.Tests.{le-leb}
 use Rattle.texts.specs.Ascii.{ascii}
 use Rattle.texts.specs.Best.{Best, best-refl, best-append, best-behind, best-less, best-more}
-use Rattle.texts.specs.Tests.{none-some, cond-some}
-use Rattle.number.specs.declared.Sign.{Sign}
+use Rattle.texts.specs.Tests.{cond-some}
 use Rattle.number.specs.declared.Sign.the-variants.{Plain, Minus}
 use Rattle.number.specs.Digits.{val, dec}
-use Rattle.number.specs.Decimals.{dec-value, dec-some, dec-best}
+use Rattle.number.specs.Decimals.{dec-best}
 use Rattle.number.specs.Reading.{signed, most, fits}
 use Rattle.number.specs.Signs.{saturated-fit}
+use Rattle.number.specs.Written.{Written, digitsOf, unsignedDigits, digits-written, unsigned-written, digits-found, unsigned-found}
 use Rattle.residue.specs.Residues.{isResidue}
 use Rattle.record.specs.declared.variant.Kind.{Kind}
 use Rattle.record.specs.declared.variant.Kind.the-variants.{Cds, Genome, Mt, Tx, Prot, Rna}
@@ -40,36 +40,7 @@ use Rattle.lang.specs.IntervalCanon.{interval-canon}
 use Rattle.lang.specs.MuCanon.{mu-canon}
 use Rattle.location.specs.Languages.{posLang, may-join, endsLang, brackets, locationLang}
 use Rattle.location.specs.Equal.{eqPosition, eq-true, eq-refl}
-use Rattle.location.specs.Canon.{digitsOf, unsignedDigits, canonOffset, marked, canonBase, canonBased, canonGenomic, canonPosition}
-
--- ---- digits
--- ds is read with the sign as z
-record Written (sign : Sign) (z : ℤ) (ds : List ℕ) : Type 0 where
-  digits : Digits ds
-  fit : val ds ≤ most sign
-  value : number sign ds ≡ z
-
-digits-written : (sign : Sign) (v : ℕ) (ds : List ℕ) → digitsOf sign v ≡ some ds → Written sign (signed sign v) ds
-digits-written sign v ds e =
-    let h = cond-some (fits sign v) (some (dec v)) ds e in
-    let l : v ≤ most sign = leb-true v (most sign) (h .0) in
-    let j : dec v ≡ ds = cc (h .1) in
-    rw (← j) (record { digits = dec-some v; fit = rw (dec-value v) l; value = rw (dec-value v) (saturated-fit sign v l) })
-
-unsigned-written : (z : ℤ) (ds : List ℕ) → unsignedDigits z ≡ some ds → Written Plain z ds
-unsigned-written (pos v) ds e = digits-written Plain v ds e
-unsigned-written (negsuc v) ds e = absurd (none-some e)
-
--- digits that fit: their decimal text is found
-module _ (sign : Sign) (ds : List ℕ) (h : val ds ≤ most sign) where
-  number-is : number sign ds ≡ signed sign (val ds)
-  number-is = saturated-fit sign (val ds) h
-
-  digits-found : digitsOf sign (val ds) ≡ some (dec (val ds))
-  digits-found = rw (le-leb (val ds) (most sign) h)
-
-unsigned-found : (ds : List ℕ) → val ds ≤ most Plain → unsignedDigits (number Plain ds) ≡ some (dec (val ds))
-unsigned-found ds h = ap unsignedDigits (number-is Plain ds h) ∙ digits-found Plain ds h
+use Rattle.location.specs.Canon.{canonOffset, marked, canonBase, canonBased, canonGenomic, canonPosition}
 
 -- ---- offsets
 record OffsetRight (v : Declared.Offset) (o : Offset) : Type 0 where
@@ -101,10 +72,10 @@ offset-covers : (u : Offset) → WfOffset u → (k : ℕ) → misfit (offsetNumb
 offset-covers absent w k f = record { tree = absent; found = refl; best = best-refl }
 offset-covers (ahead ds) w k f =
     let h = one-fits (k + 1) Plain ds f in
-    record { tree = ahead (dec (val ds)); found = rw (number-is Plain ds h, digits-found Plain ds h); best = best-behind (ascii "+") (dec-best w refl) }
+    record { tree = ahead (dec (val ds)); found = rw (saturated-fit Plain (val ds) h, digits-found Plain (val ds) h); best = best-behind (ascii "+") (dec-best w refl) }
 offset-covers (back ds) w k f =
     let h = one-fits (k + 1) Minus ds f in
-    rw (number-is Minus ds h) (back-covers ds (val ds) w refl h)
+    rw (saturated-fit Minus (val ds) h) (back-covers ds (val ds) w refl h)
 
 -- ---- c, n, r
 record BaseRight (from : CdsFrom) (z : ℤ) (base : Offset → Based) : Type 0 where
@@ -152,10 +123,10 @@ minus-covers ds zero w e h = record { mark = bare; text = dec 0; found = refl; b
 minus-covers ds (suc v) w e h = record { mark = minus; text = dec (suc v); found = rw (le-leb (suc v) (most Minus) h); best = best-behind (ascii "-") (dec-best w e) }
 
 base-covers : (m : Mark) (ds : List ℕ) → Digits ds → val ds ≤ most (signOf m) → BaseCovered (fromOf m) (number (signOf m) ds) m ds
-base-covers bare ds w h = record { mark = bare; text = dec (val ds); found = rw (number-is Plain ds h, digits-found Plain ds h); best = dec-best w refl }
-base-covers plus ds w h = record { mark = bare; text = dec (val ds); found = rw (number-is Plain ds h, digits-found Plain ds h); best = best-more (code "+") (dec-best w refl) }
-base-covers minus ds w h = rw (number-is Minus ds h) (minus-covers ds (val ds) w refl h)
-base-covers star ds w h = record { mark = star; text = dec (val ds); found = rw (unsigned-found ds h); best = best-behind (ascii "*") (dec-best w refl) }
+base-covers bare ds w h = record { mark = bare; text = dec (val ds); found = rw (saturated-fit Plain (val ds) h, digits-found Plain (val ds) h); best = dec-best w refl }
+base-covers plus ds w h = record { mark = bare; text = dec (val ds); found = rw (saturated-fit Plain (val ds) h, digits-found Plain (val ds) h); best = best-more (code "+") (dec-best w refl) }
+base-covers minus ds w h = rw (saturated-fit Minus (val ds) h) (minus-covers ds (val ds) w refl h)
+base-covers star ds w h = record { mark = star; text = dec (val ds); found = rw (unsigned-found (val ds) h); best = best-behind (ascii "*") (dec-best w refl) }
 
 record BasedCovered (p : CdsPos) (u : Based) : Type 0 where
   tree : Based
@@ -224,7 +195,7 @@ record GenomicCovered (v : Option ℤ) (u : Genomic) : Type 0 where
   best : Best (printGenomic tree) (printGenomic u)
 
 genomic-covers : (u : Genomic) → WfGenomic u → misfit (genomicNumbers 0 u) ≡ none → GenomicCovered (numberIn u) u
-genomic-covers (known ds) w f = record { tree = known (dec (val ds)); found = rw (unsigned-found ds (one-fits 0 Plain ds f)); best = dec-best w refl }
+genomic-covers (known ds) w f = record { tree = known (dec (val ds)); found = rw (unsigned-found (val ds) (one-fits 0 Plain ds f)); best = dec-best w refl }
 genomic-covers unknown w f = record { tree = unknown; found = refl; best = best-refl }
 
 -- in whatever record is unknown or has a number
@@ -282,7 +253,7 @@ coversPosition Mt (known ds) w f = let c = genomic-covers (known ds) w f in reco
 coversPosition Mt unknown w f = let c = genomic-covers unknown w f in record { tree = c .tree; found = c .found; best = c .best }
 coversPosition Tx (based m ds o) w f = let c = unstarred-covers m ds o w f in record { tree = c .tree; found = c .found; best = c .best }
 coversPosition Prot (residual r ds) w f =
-    record { tree = residual r (dec (val ds)); found = rw (w .0, unsigned-found ds (one-fits (0 + length r) Plain ds f)); best = best-behind r (dec-best (w .1) refl) }
+    record { tree = residual r (dec (val ds)); found = rw (w .0, unsigned-found (val ds) (one-fits (0 + length r) Plain ds f)); best = best-behind r (dec-best (w .1) refl) }
 coversPosition Rna (based m ds o) w f = let c = unstarred-covers m ds o w f in record { tree = c .tree; found = c .found; best = c .best }
 
 abbrev pub posCanon : (k : Kind) → Canon (posLang k)

@@ -4,16 +4,14 @@ use mathlib.Core.List.{List}
 use mathlib.Core.Option.{Option, none, some}
 use mathlib.Core.Bool.{Bool, cond, _&&_}
 use lib.Dec.{eqb, leb}
-use lib.IntN.{ℤ, pos, negsuc}
 use lib.ListN.{length, getD}
 use Rattle.texts.specs.Runs.{every}
 use Rattle.texts.specs.Words.{same}
-use Rattle.number.specs.Digits.{dec}
-use Rattle.number.specs.Reading.{fits}
-use Rattle.number.specs.declared.Sign.the-variants.{Plain}
+use Rattle.number.specs.Written.{unsignedDigits}
 use Rattle.grammar.specs.NucleotideEdits.{NaEdit, NaEdit.equal, NaEdit.swap, NaEdit.delIns, NaEdit.delNumIns, NaEdit.delNum, NaEdit.del, NaEdit.ins, NaEdit.dup, NaEdit.invNum, NaEdit.inv}
 use Rattle.grammar.specs.Values as Values
 use Rattle.grammar.specs.Values.{NaEditV, NaEditV.refAlt, NaEditV.numAlt, NaEditV.delRef, NaEditV.insV, NaEditV.dupV, NaEditV.invRef}
+use Rattle.lang.specs.Canon.{mapO}
 
 -- one letter each
 abbrev pub ones : List ℕ → List ℕ → Bool
@@ -26,18 +24,13 @@ canonRefAlt a b =
     (cond (ones a b) (some (swap (getD a 0 0) (getD b 0 0)))
     (cond (leb 1 (length b)) (some (delIns a b)) none))
 
--- a tree with the decimal text of a count that fits
-abbrev pub counted : (List ℕ → NaEdit) → ℤ → Option NaEdit
-counted f (pos v) = cond (fits Plain v) (some (f (dec v))) none
-counted f (negsuc v) = none
-
 module _ (na : ℕ → Bool) where
   abbrev pub canonNaEdit : NaEditV → Option NaEdit
   canonNaEdit (refAlt a b) = cond (every na a && every na b) (canonRefAlt a b) none
-  canonNaEdit (numAlt n b) = cond (every na b && leb 1 (length b)) (counted (λ ds. delNumIns ds b) n) none
+  canonNaEdit (numAlt n b) = cond (every na b && leb 1 (length b)) (mapO (λ ds. delNumIns ds b) (unsignedDigits n)) none
   canonNaEdit (delRef a) = cond (every na a) (some (del a)) none
-  canonNaEdit (Values.NaEditV.delNum n) = counted delNum n
+  canonNaEdit (Values.NaEditV.delNum n) = mapO delNum (unsignedDigits n)
   canonNaEdit (insV b) = cond (every na b && leb 1 (length b)) (some (ins b)) none
   canonNaEdit (dupV a) = cond (every na a) (some (dup a)) none
   canonNaEdit (invRef a) = cond (every na a) (some (inv a)) none
-  canonNaEdit (Values.NaEditV.invNum n) = counted invNum n
+  canonNaEdit (Values.NaEditV.invNum n) = mapO invNum (unsignedDigits n)

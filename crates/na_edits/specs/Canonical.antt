@@ -1,12 +1,11 @@
 -- The tree that canon gives is one of the value, its text is best among all trees of the value, and where it gives none there is none.
 use Prim.Native.Nat.{ℕ, _+_, _<_}
-use mathlib.Core.Path.{_≡_, refl}
+use mathlib.Core.Path.{_≡_, refl, ap}
 use mathlib.Core.List.{List, [], _∷_}
 use mathlib.Core.Option.{none, some}
 use mathlib.Core.Bool.{Bool, true, false, _&&_}
 use native.Mathlib.Omega.{arith}
 use lib.Dec.{eqb, leb}
-use lib.IntN.{pos, negsuc}
 use lib.ListN.{length, getD, length-append}
 use borrow.Author.Tests.{eqb-true, le-leb, leb-true}
 use Rattle.texts.specs.Ascii.{ascii}
@@ -15,9 +14,8 @@ use Rattle.texts.specs.Tests.{and-true, none-some, cond-some}
 use Rattle.texts.specs.Runs.{every, Some, every-one, one-every}
 use Rattle.texts.specs.Words.{same, same-true, same-refl}
 use Rattle.number.specs.Digits.{val, dec}
-use Rattle.number.specs.Decimals.{dec-value, dec-some, dec-best}
-use Rattle.number.specs.Reading.{most, fits}
-use Rattle.number.specs.Signs.{saturated-fit}
+use Rattle.number.specs.Decimals.{dec-best}
+use Rattle.number.specs.Written.{unsignedDigits, unsigned-written, unsigned-found}
 use Rattle.number.specs.declared.Sign.the-variants.{Plain}
 use Rattle.grammar.specs.Shapes.{Mu, Mu.certain, Mu.uncertain, WfMu}
 use Rattle.grammar.specs.NucleotideEdits.{NaEdit, NaEdit.equal, NaEdit.swap, NaEdit.delIns, NaEdit.delNumIns, NaEdit.delNum, NaEdit.del, NaEdit.ins, NaEdit.dup, NaEdit.invNum, NaEdit.inv, printNaEdit, WfNaEdit}
@@ -26,13 +24,13 @@ use Rattle.grammar.specs.Values.{NaEditV, NaEditV.refAlt, NaEditV.numAlt, NaEdi
 use Rattle.grammar.specs.Meaning.{number, meaningNaEdit}
 use Rattle.grammar.specs.Numbers.{Numeral.numeral, misfit, naEditNumbers, muNumbers}
 use Rattle.grammar.specs.NumberLaws.{one-fits, fits-one, one-anywhere}
-use Rattle.lang.specs.Canon.{Canon, Right, Covered}
+use Rattle.lang.specs.Canon.{Canon, Right, Covered, mapO, map-some}
 use Rattle.lang.specs.MuCanon.{mu-canon}
 use Rattle.na_edits.specs.Alphabet.{Alphabet}
 use Rattle.na_edits.specs.Choice.{if-holds}
 use Rattle.na_edits.specs.Sound.{naEditLang}
 use Rattle.na_edits.specs.Brackets.{brackets, muNaEditLang}
-use Rattle.na_edits.specs.Canon.{ones, canonRefAlt, counted, canonNaEdit}
+use Rattle.na_edits.specs.Canon.{ones, canonRefAlt, canonNaEdit}
 
 -- ---- numbers that fit
 abbrev pub FitsNaEdit : NaEdit → Type 0
@@ -51,16 +49,9 @@ fits-anywhere j k (dup seq) e = refl
 fits-anywhere j k (invNum ds) e = one-anywhere (j + 3) (k + 3) Plain ds e
 fits-anywhere j k (inv seq) e = refl
 
--- the decimal text of a number that fits
-module _ (v : ℕ) (h : fits Plain v ≡ true) where
-  dec-number : number Plain (dec v) ≡ pos v
-  dec-number = rw dec-value (saturated-fit Plain v (leb-true _ _ h))
-
-  dec-fits : (k : ℕ) → misfit (numeral k Plain (dec v) ∷ []) ≡ none
-  dec-fits k = fits-one k Plain (dec v) (rw dec-value (leb-true _ _ h))
-
-counted-is : (f : List ℕ → NaEdit) (k : ℕ) (ds : List ℕ) → misfit (numeral k Plain ds ∷ []) ≡ none → counted f (number Plain ds) ≡ some (f (dec (val ds)))
-counted-is f k ds e = let h = one-fits k Plain ds e in rw (saturated-fit Plain (val ds) h, le-leb (val ds) (most Plain) h)
+-- the tree of a count that fits is found with its decimal text
+counted : (f : List ℕ → NaEdit) (k : ℕ) (ds : List ℕ) → misfit (numeral k Plain ds ∷ []) ≡ none → mapO f (unsignedDigits (number Plain ds)) ≡ some (f (dec (val ds)))
+counted f k ds e = ap (mapO f) (unsigned-found (val ds) (one-fits k Plain ds e))
 
 -- ---- one letter
 pub one-is : (a : List ℕ) → length a ≡ 1 → a ≡ getD a 0 0 ∷ []
@@ -110,23 +101,23 @@ module _ (na : ℕ → Bool) (al : Alphabet na) where
       let h = cond-some (every na a && every na b) (canonRefAlt a b) t e in
       let w = and-true (every na a) (every na b) (h .0) in
       right-refAlt a b t (w .0) (w .1) (h .1)
-  right (numAlt (pos v) b) t e =
-      let h = cond-some (every na b && leb 1 (length b)) (counted (λ ds. delNumIns ds b) (pos v)) t e in
-      if-holds (RightEdit (numAlt (pos v) b)) (fits Plain v) (delNumIns (dec v) b) t (h .1)
-      (λ q. record { wf = (dec-some v, some-letters b (h .0)); fits = dec-fits v q 3; means = rw (dec-number v q) })
-  right (numAlt (negsuc v) b) t e = absurd (none-some (cond-some (every na b && leb 1 (length b)) none t e .1))
+  right (numAlt n b) t e =
+      let h = cond-some (every na b && leb 1 (length b)) (mapO (λ ds. delNumIns ds b) (unsignedDigits n)) t e in
+      let m = map-some (λ ds. delNumIns ds b) (unsignedDigits n) t (h .1) in
+      let w = unsigned-written n (m .0) (m .1 .0) in
+      rw (← m .1 .1) (record { wf = (w .digits, some-letters b (h .0)); fits = fits-one 3 Plain (m .0) (w .fit); means = rw (w .value) })
   right (delRef a) t e = if-holds (RightEdit (delRef a)) (every na a) (del a) t e (λ h. record { wf = h; fits = refl; means = refl })
-  right (Values.NaEditV.delNum (pos v)) t e =
-      if-holds (RightEdit (Values.NaEditV.delNum (pos v))) (fits Plain v) (delNum (dec v)) t e
-      (λ q. record { wf = dec-some v; fits = dec-fits v q 3; means = rw (dec-number v q) })
-  right (Values.NaEditV.delNum (negsuc v)) t e = absurd (none-some e)
+  right (Values.NaEditV.delNum n) t e =
+      let m = map-some delNum (unsignedDigits n) t e in
+      let w = unsigned-written n (m .0) (m .1 .0) in
+      rw (← m .1 .1) (record { wf = w .digits; fits = fits-one 3 Plain (m .0) (w .fit); means = rw (w .value) })
   right (insV b) t e = if-holds (RightEdit (insV b)) (every na b && leb 1 (length b)) (ins b) t e (λ h. record { wf = some-letters b h; fits = refl; means = refl })
   right (dupV a) t e = if-holds (RightEdit (dupV a)) (every na a) (dup a) t e (λ h. record { wf = h; fits = refl; means = refl })
   right (invRef a) t e = if-holds (RightEdit (invRef a)) (every na a) (inv a) t e (λ h. record { wf = h; fits = refl; means = refl })
-  right (Values.NaEditV.invNum (pos v)) t e =
-      if-holds (RightEdit (Values.NaEditV.invNum (pos v))) (fits Plain v) (invNum (dec v)) t e
-      (λ q. record { wf = dec-some v; fits = dec-fits v q 3; means = rw (dec-number v q) })
-  right (Values.NaEditV.invNum (negsuc v)) t e = absurd (none-some e)
+  right (Values.NaEditV.invNum n) t e =
+      let m = map-some invNum (unsignedDigits n) t e in
+      let w = unsigned-written n (m .0) (m .1 .0) in
+      rw (← m .1 .1) (record { wf = w .digits; fits = fits-one 3 Plain (m .0) (w .fit); means = rw (w .value) })
 
   -- ---- and no tree of the value has a better text
   covers-delIns : (a b : List ℕ) → every na a ≡ true → Some na b → CoveredEdit (delIns a b)
@@ -157,14 +148,14 @@ module _ (na : ℕ → Bool) (al : Alphabet na) where
   covers (delIns seq seq1) w f = covers-delIns seq seq1 (w .0) (w .1)
   covers (delNumIns ds seq1) w f = record {
     tree = delNumIns (dec (val ds)) seq1;
-    found = rw (letters-some seq1 (w .1)) (counted-is (λ ds. delNumIns ds seq1) 3 ds f);
+    found = rw (letters-some seq1 (w .1)) (counted (λ ds. delNumIns ds seq1) 3 ds f);
     best = best-behind (ascii "del") (best-append (dec-best (w .0) refl) best-refl);
   }
-  covers (delNum ds) w f = record { tree = delNum (dec (val ds)); found = counted-is delNum 3 ds f; best = best-behind (ascii "del") (dec-best w refl) }
+  covers (delNum ds) w f = record { tree = delNum (dec (val ds)); found = counted delNum 3 ds f; best = best-behind (ascii "del") (dec-best w refl) }
   covers (del seq) w f = record { tree = del seq; found = rw w; best = best-refl }
   covers (ins seq1) w f = record { tree = ins seq1; found = rw (letters-some seq1 w); best = best-refl }
   covers (dup seq) w f = record { tree = dup seq; found = rw w; best = best-refl }
-  covers (invNum ds) w f = record { tree = invNum (dec (val ds)); found = counted-is invNum 3 ds f; best = best-behind (ascii "inv") (dec-best w refl) }
+  covers (invNum ds) w f = record { tree = invNum (dec (val ds)); found = counted invNum 3 ds f; best = best-behind (ascii "inv") (dec-best w refl) }
   covers (inv seq) w f = record { tree = inv seq; found = rw w; best = best-refl }
 
   abbrev pub naEditCanon : Canon (naEditLang na al)

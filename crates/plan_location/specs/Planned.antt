@@ -33,7 +33,8 @@ use Rattle.grammar.specs.Records.{PositionR, MuIntervalR}
 use Rattle.grammar.specs.Contents.{positionContent, locationContent}
 use Rattle.lang.specs.Canon.{mapO, bothO}
 use Rattle.location.specs.Equal.{eqPosition}
-use Rattle.location.specs.Canon.{digitsOf, unsignedDigits, canonOffset, marked, canonBased, canonGenomic, canonPosition}
+use Rattle.number.specs.Written.{digitsOf, unsignedDigits}
+use Rattle.location.specs.Canon.{canonOffset, marked, canonBased, canonGenomic, canonPosition}
 use Rattle.location.specs.Canonical.{locationCanon}
 use Rattle.read_location.specs.declared.Position.{Position}
 use Rattle.read_location.specs.declared.Location.{Location}

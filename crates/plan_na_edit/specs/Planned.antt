@@ -5,12 +5,13 @@ use mathlib.Core.List.{List, _∷_, _++_, append-nil}
 use mathlib.Core.Option.{none, some}
 use mathlib.Core.Bool.{Bool, true, false, cond, _&&_}
 use lib.Dec.{eqb, leb}
-use lib.IntN.{ℤ, pos, negsuc, natAbs}
+use lib.IntN.{ℤ, natAbs}
 use lib.ListN.{length, getD}
 use borrow.Author.Tests.{eqb-true}
 use Rattle.texts.specs.Ascii.{ascii}
 use Rattle.texts.specs.Tests.{and-true}
 use Rattle.number.specs.Digits.{dec}
+use Rattle.number.specs.Written.{unsignedDigits}
 use Rattle.alphabet.specs.Letters.{nucleotide}
 use Rattle.record.specs.declared.spans.Span.{Span}
 use Rattle.record.specs.declared.edits.NaEdit.{NaEdit}
@@ -20,7 +21,7 @@ use Rattle.grammar.specs.Contents.{naEditContent}
 use Rattle.grammar.specs.NucleotideEdits as Tree
 use Rattle.grammar.specs.NucleotideEdits.{NaEdit.equal, NaEdit.swap, NaEdit.delIns, NaEdit.delNumIns, NaEdit.delNum, NaEdit.del, NaEdit.ins, NaEdit.dup, NaEdit.invNum, NaEdit.inv, printNaEdit}
 use Rattle.lang.specs.Canon.{mapO}
-use Rattle.na_edits.specs.Canon.{canonRefAlt, counted, canonNaEdit}
+use Rattle.na_edits.specs.Canon.{canonRefAlt, canonNaEdit}
 use Rattle.na_edits.specs.Canonical.{one-is}
 use Rattle.promise.specs.NoRef.{noRefEdit}
 use Rattle.emit.specs.declared.Word.{Word}
@@ -29,13 +30,16 @@ use Rattle.emit.specs.Words.{wordText}
 use Rattle.emit.specs.Texts.{noSpan, rowText}
 use Rattle.emit.specs.Laws.{no-part}
 use Rattle.rows.specs.Rows.{planText, lettersRow, isUnsigned}
-use Rattle.rows.specs.Laws.{letters-text, word-text, word-alone, either, row-text, row-if}
+use Rattle.rows.specs.Laws.{letters-text, word-text, word-alone, either, row-text, row-if, unsigned-digits}
 use Rattle.plan_na_edit.specs.Plan.{delInsRow, countRow, isSeq, isSeq1, sameParts, onesParts, planChange, planRefAlt, planNumAlt, planCount, planNaEdit, noRefAlt, noRefRow}
 
 -- ---- the texts of the rows
-counted-is : (f : List ℕ → Tree.NaEdit) (n : ℤ) → counted f n ≡ cond (isUnsigned n) (some (f (dec (natAbs n)))) none
-counted-is f (pos v) = refl
-counted-is f (negsuc v) = refl
+counted-is : (f : List ℕ → Tree.NaEdit) (n : ℤ) → mapO f (unsignedDigits n) ≡ cond (isUnsigned n) (some (f (dec (natAbs n)))) none
+counted-is f n = rw (unsigned-digits n) (go (isUnsigned n))
+  where
+    go : (b : Bool) → mapO f (cond b (some (dec (natAbs n))) none) ≡ cond b (some (f (dec (natAbs n)))) none
+    go true = refl
+    go false = refl
 
 module _ (s : List ℕ) where
   count-text : (word : Word) (v : ℕ) (joint : Word) (q : Span) → rowText s (countRow word v joint q) ≡ wordText word ++ (dec v ++ (wordText joint ++ part s q))
@@ -66,7 +70,7 @@ module _ (s : List ℕ) where
       (λ k. row-text s printNaEdit _ (swap (getD (part s p) 0 0) (getD (part s q) 0 0)) (swap-text p q k))
       (λ k. row-if s printNaEdit (leb 1 (length (part s q))) _ (delIns (part s p) (part s q)) (change-text p q)))
 
-  count-planned : (word : Word) (f : List ℕ → Tree.NaEdit) (n : ℤ) → ((ds : List ℕ) → printNaEdit (f ds) ≡ wordText word ++ ds) → planText s (planCount word n) ≡ mapO printNaEdit (counted f n)
+  count-planned : (word : Word) (f : List ℕ → Tree.NaEdit) (n : ℤ) → ((ds : List ℕ) → printNaEdit (f ds) ≡ wordText word ++ ds) → planText s (planCount word n) ≡ mapO printNaEdit (mapO f (unsignedDigits n))
   count-planned word f n h =
       rw (counted-is f n)
       (row-if s printNaEdit (isUnsigned n) _ (f (dec (natAbs n))) (count-text word (natAbs n) Empty noSpan ∙ rw (no-part s, append-nil (dec (natAbs n)), h (dec (natAbs n)))))
