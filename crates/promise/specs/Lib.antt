@@ -3,5 +3,4 @@ pub mod Reading
 pub mod Writing
 pub mod NoRef
 pub mod Width
-pub mod Accession
 pub mod Unique
