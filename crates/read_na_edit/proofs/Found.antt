@@ -1,5 +1,5 @@
 -- The answer for a tree, from what was counted.
-use Prim.Native.Nat.{ℕ, _+_, _≤_}
+use Prim.Native.Nat.{ℕ, _+_}
 use mathlib.Core.Path.{_≡_, refl, sym, ap, _∙_}
 use mathlib.Core.List.{List, [], _∷_, _++_}
 use mathlib.Core.Option.{some}
@@ -8,11 +8,9 @@ use mir.Syntax.{w32}
 use mir.Val.{toZ, ofZ}
 use lib.IntN.{ℤ}
 use lib.ListN.{length, length-append}
-use Rattle.texts.specs.Runs.{run, front, run-le, front-length}
+use Rattle.texts.specs.Runs.{front}
 use Rattle.alphabet.specs.Letters.{digit}
-use Rattle.number.specs.Digits.{val}
-use Rattle.number.specs.Reading.{numberOf, numberAt}
-use Rattle.number.specs.Signs.{saturated-held}
+use Rattle.number.specs.Reading.{numberAt}
 use Rattle.number.specs.declared.Number.{Number}
 use Rattle.number.specs.declared.Sign.the-variants.{Plain}
 use Rattle.record.specs.declared.spans.Span.{Span}
@@ -22,7 +20,8 @@ use Rattle.grammar.specs.NucleotideEdits.{NaEdit, NaEdit.equal, NaEdit.swap, Na
 use Rattle.grammar.specs.Meaning.{number}
 use Rattle.grammar.specs.Records.{span, spanOf, naEditAt}
 use Rattle.grammar.specs.Numbers.{Numeral.numeral, naEditNumbers}
-use Rattle.scan.specs.Faults.{faults, none, unfitUnless, faults-nil, faults-one}
+use Rattle.scan.specs.Faults.{faults, none, unfitUnless, faults-nil}
+use Rattle.scan.specs.Reading.{number-len, number-value, number-faults}
 use Rattle.scan.specs.declared.Faults.{Faults}
 use Rattle.read_na_edit.specs.declared.NaEditRead.the-variants.{Found}
 use Rattle.read_na_edit.specs.Answer.{naEditAnswer}
@@ -59,34 +58,17 @@ module _ (k : ℕ) (f : Faults) (ef : f ≡ none) where
         let l : 3 + m + 3 + n ≡ length (printNaEdit (delIns a b)) = simp length-append (omega arith) in
         found-plain k (delIns a b) (RefAlt p q) (3 + m + 3 + n) f (rw (h, i)) l refl ef
 
--- ---- the number n that stands at the front of s
-module _ (s : List ℕ) (n : Number) (e : n ≡ numberAt Plain s) where
-  pub len-run : n .len ≡ run digit s
-  unfolding numberAt numberOf
-  len-run = rw e
+-- ---- the number n that stands at the front of s, behind a word of three letters
+module _ (s : List ℕ) (n : Number) (e : n ≡ numberAt Plain s) (k : ℕ) (f : Faults) (ef : f ≡ unfitUnless (n .fits) (k + 3)) where
+  faults-are : f ≡ faults (numeral (k + 3) Plain (front digit s) ∷ [])
+  faults-are = ef ∙ number-faults Plain s n e (k + 3)
 
-  pub len-is : n .len ≡ length (front digit s)
-  len-is = len-run ∙ sym (front-length digit s)
+  pub found-number : (made : ℤ → D.NaEdit) (t : NaEdit) (w : List ℕ) → length w ≡ 3 → printNaEdit t ≡ w ++ front digit s → naEditAt k t ≡ made (number Plain (front digit s)) → naEditNumbers k t ≡ numeral (k + 3) Plain (front digit s) ∷ [] → Found (made (toZ w32 (ofZ w32 (n .value)))) (3 + n .len) f ≡ naEditAnswer k (some t)
+  found-number made t w l et er en =
+      found k t (made (toZ w32 (ofZ w32 (n .value)))) (3 + n .len) f (rw (number-value Plain s n e, er)) (rw (et, length-append, l, number-len Plain s n e)) (faults-are ∙ ap faults (sym en))
 
-  pub len-le : n .len ≤ length s
-  len-le = omega (arith, len-run, run-le digit s)
-
-  value-is : toZ w32 (ofZ w32 (n .value)) ≡ number Plain (front digit s)
-  unfolding numberAt numberOf
-  value-is = rw e (saturated-held Plain (val (front digit s)))
-
-  -- behind a word of three letters
-  module _ (k : ℕ) (f : Faults) (ef : f ≡ unfitUnless (n .fits) (k + 3)) where
-    faults-are : f ≡ faults (numeral (k + 3) Plain (front digit s) ∷ [])
-    unfolding numberAt numberOf
-    faults-are = rw (faults-one, ef, e)
-
-    pub found-number : (made : ℤ → D.NaEdit) (t : NaEdit) (w : List ℕ) → length w ≡ 3 → printNaEdit t ≡ w ++ front digit s → naEditAt k t ≡ made (number Plain (front digit s)) → naEditNumbers k t ≡ numeral (k + 3) Plain (front digit s) ∷ [] → Found (made (toZ w32 (ofZ w32 (n .value)))) (3 + n .len) f ≡ naEditAnswer k (some t)
-    found-number made t w l et er en =
-        found k t (made (toZ w32 (ofZ w32 (n .value)))) (3 + n .len) f (rw (value-is, er)) (rw (et, length-append, l, len-is)) (faults-are ∙ ap faults (sym en))
-
-    pub found-num-ins : (m : ℕ) (b : List ℕ) (q : Span) → m ≡ length b → q ≡ span (k + 3 + n .len + 3) m → Found (NumAlt (toZ w32 (ofZ w32 (n .value))) q) (3 + n .len + 3 + m) f ≡ naEditAnswer k (some (delNumIns (front digit s) b))
-    found-num-ins m b q em eq =
-        let h : q ≡ spanOf (k + 3 + length (front digit s) + 3) b = rw (eq, len-is, em) in
-        let l : 3 + n .len + 3 + m ≡ length (printNaEdit (delNumIns (front digit s) b)) = simp length-append (omega (arith, len-is)) in
-        found k (delNumIns (front digit s) b) (NumAlt (toZ w32 (ofZ w32 (n .value))) q) (3 + n .len + 3 + m) f (rw (value-is, h)) l faults-are
+  pub found-num-ins : (m : ℕ) (b : List ℕ) (q : Span) → m ≡ length b → q ≡ span (k + 3 + n .len + 3) m → Found (NumAlt (toZ w32 (ofZ w32 (n .value))) q) (3 + n .len + 3 + m) f ≡ naEditAnswer k (some (delNumIns (front digit s) b))
+  found-num-ins m b q em eq =
+      let h : q ≡ spanOf (k + 3 + length (front digit s) + 3) b = rw (eq, number-len Plain s n e, em) in
+      let l : 3 + n .len + 3 + m ≡ length (printNaEdit (delNumIns (front digit s) b)) = simp length-append (omega (arith, number-len Plain s n e)) in
+      found k (delNumIns (front digit s) b) (NumAlt (toZ w32 (ofZ w32 (n .value))) q) (3 + n .len + 3 + m) f (rw (number-value Plain s n e, h)) l faults-are

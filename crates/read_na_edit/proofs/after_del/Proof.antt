@@ -10,7 +10,8 @@ use Rattle.alphabet.specs.Classes.{member}
 use Rattle.record.specs.declared.edits.NaEdit.the-variants.{DelRef}
 use Rattle.grammar.specs.NucleotideEdits.{NaEdit.del}
 use Rattle.na_edits.specs.Parse.{inserted}
-use Rattle.read_na_edit.proofs.Found.{len-is, found-word, found-del-ins}
+use Rattle.scan.specs.Reading.{number-len}
+use Rattle.read_na_edit.proofs.Found.{found-word, found-del-ins}
 use Rattle.read_na_edit.proofs.Laws.{counted-le, inserted-behind, inserted-within, del-ins, del-digits, del-letters}
 use borrow.Author.Needs.{needs}
 use Rattle.read_na_edit.proofs.after_del.Statement.{statement}
@@ -95,7 +96,7 @@ returns-2 c =
     let n = c .before .before .before in
     let i = n .before .before in
     let s = i .before .before .before .before .args .s .now in
-    rw (del-digits nucleotide s (sym (b-is i) ∙ n .before .if1 .left) (λ z. c .before .if2 .taken (len-is s _ (n .number-at .ensures) ∙ z)))
+    rw (del-digits nucleotide s (sym (b-is i) ∙ n .before .if1 .left) (λ z. c .before .if2 .taken (number-len _ s _ (n .number-at .ensures) ∙ z)))
     (c .after-del-num .ensures)
 
 add-span-5 : tie.Need-add-span-5
@@ -117,7 +118,7 @@ returns-3 c =
     let i = n .before .before in
     let m = i .before .before in
     let s = m .before .before .args .s .now in
-    rw (del-letters nucleotide s (sym (b-is i) ∙ n .before .if1 .left) (sym (len-is s _ (n .number-at .ensures)) ∙ e .if2 .left))
+    rw (del-letters nucleotide s (sym (b-is i) ∙ n .before .if1 .left) (sym (number-len _ s _ (n .number-at .ensures)) ∙ e .if2 .left))
     (found-word _ _ (c .no-faults2 .ensures) _ (front nucleotide s) _ (m-is m) (c .before .span3 .ensures) DelRef (del (front nucleotide s)) (ascii "del") refl refl refl refl)
 
 pub after-del-spec : {M : Type 1} → statement M

@@ -9,17 +9,18 @@ use Rattle.alphabet.specs.Letters.{digit, nucleotide}
 use Rattle.record.specs.declared.edits.NaEdit.the-variants.{DelNum}
 use Rattle.grammar.specs.NucleotideEdits.{NaEdit.delNum}
 use Rattle.na_edits.specs.Parse.{inserted}
-use Rattle.read_na_edit.proofs.Found.{len-run, len-le, found-number, found-num-ins}
+use Rattle.scan.specs.Reading.{number-run, number-le}
+use Rattle.read_na_edit.proofs.Found.{found-number, found-num-ins}
 use Rattle.read_na_edit.proofs.Laws.{inserted-behind, inserted-within, del-num, del-num-ins}
 use borrow.Author.Needs.{needs}
 use Rattle.read_na_edit.proofs.after_del_num.Statement.{statement}
 use Rattle.read_na_edit.proofs.after_del_num.Tie as tie
 
 n-le : (c : tie.Start) → c .args .n .len ≤ length (c .args .s .now)
-n-le c = len-le _ _ (c .pre .1)
+n-le c = number-le _ _ _ (c .pre .1)
 
 b-is : (c : tie.After-inserted) → c .inserted .result ≡ length (inserted nucleotide (behind digit (c .before .before .before .args .s .now)))
-b-is c = inserted-behind nucleotide digit _ _ _ (len-run _ _ (c .before .before .before .pre .1)) (c .inserted .ensures)
+b-is c = inserted-behind nucleotide digit _ _ _ (number-run _ _ _ (c .before .before .before .pre .1)) (c .inserted .ensures)
 
 b-le : (c : tie.After-inserted) → c .inserted .result ≤ length (c .before .before .before .args .s .now)
 b-le c = inserted-within nucleotide digit _ _ (b-is c)

@@ -9,7 +9,8 @@ use Rattle.alphabet.specs.Letters.{digit, nucleotide}
 use Rattle.alphabet.specs.Classes.{member}
 use Rattle.record.specs.declared.edits.NaEdit.the-variants.{InvRef, InvNum}
 use Rattle.grammar.specs.NucleotideEdits.{NaEdit.invNum, NaEdit.inv}
-use Rattle.read_na_edit.proofs.Found.{len-is, len-le, found-word, found-number}
+use Rattle.scan.specs.Reading.{number-len, number-le}
+use Rattle.read_na_edit.proofs.Found.{found-word, found-number}
 use Rattle.read_na_edit.proofs.Laws.{counted-le, inv-digits, inv-letters}
 use borrow.Author.Needs.{needs}
 use Rattle.read_na_edit.proofs.after_inv.Statement.{statement}
@@ -23,7 +24,7 @@ number-at-requires : tie.Need-number-at-requires
 number-at-requires c κs = search needs
 
 add-t9 : tie.Need-add-t9
-add-t9 c = omega (arith, len-le _ _ (c .before .before .number-at .ensures))
+add-t9 c = omega (arith, number-le _ _ _ (c .before .before .number-at .ensures))
 
 add-faults-of : tie.Need-add-faults-of
 add-faults-of c = search needs
@@ -36,7 +37,7 @@ returns c =
     let t = c .before .before in
     let n = t .before in
     let s = n .before .before .args .s .now in
-    rw (inv-digits nucleotide s (λ z. t .if1 .taken (len-is s _ (n .number-at .ensures) ∙ z)))
+    rw (inv-digits nucleotide s (λ z. t .if1 .taken (number-len _ s _ (n .number-at .ensures) ∙ z)))
     (found-number s _ (n .number-at .ensures) _ _ (c .faults-of .ensures) InvNum (invNum (front digit s)) (ascii "inv") refl refl refl refl)
 
 run-of-requires : tie.Need-run-of-requires
@@ -60,7 +61,7 @@ returns-2 c =
     let m = c .before .before in
     let n = m .before .before in
     let s = n .before .before .args .s .now in
-    rw (inv-letters nucleotide s (sym (len-is s _ (n .number-at .ensures)) ∙ m .before .if1 .left))
+    rw (inv-letters nucleotide s (sym (number-len _ s _ (n .number-at .ensures)) ∙ m .before .if1 .left))
     (found-word _ _ (c .no-faults .ensures) _ (front nucleotide s) _ (m .run-of .ensures ∙ sym (front-length nucleotide s)) (c .before .span .ensures) InvRef (inv (front nucleotide s)) (ascii "inv") refl refl refl refl)
 
 pub after-inv-spec : {M : Type 1} → statement M
