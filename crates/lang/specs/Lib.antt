@@ -1,4 +1,5 @@
 pub mod Choice
+pub mod Answer
 pub mod Lang
 pub mod Whole
 pub mod MuLang

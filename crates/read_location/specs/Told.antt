@@ -1,8 +1,8 @@
 -- What an answer says: which tree was parsed, and that the answer is the tree's.
 use Prim.Native.Nat.{ℕ, _≤_}
-use mathlib.Core.Path.{_≡_, refl}
+use mathlib.Core.Path.{_≡_}
 use mathlib.Core.List.{List}
-use mathlib.Core.Option.{Option, none, some}
+use mathlib.Core.Option.{none, some}
 use mathlib.Core.Bool.{true}
 use native.Mathlib.Omega.{arith}
 use lib.ListN.{length}
@@ -12,6 +12,7 @@ use Rattle.grammar.specs.Positions.{printPosition}
 use Rattle.grammar.specs.Bodies as Body
 use Rattle.grammar.specs.Bodies.{Ends, printEnds, printLocation}
 use Rattle.grammar.specs.Numbers.{positionNumbers, endsNumbers, muNumbers}
+use Rattle.lang.specs.Answer.{by-answer}
 use Rattle.lang.specs.Lang.{within}
 use Rattle.scan.specs.declared.Faults.{Faults}
 use Rattle.scan.specs.Faults.{faults}
@@ -43,11 +44,6 @@ pub record LocationTold (k : Kind) (at : ℕ) (s : List ℕ) (l : Location) (n :
   pub means : l ≡ locationOf k at tree
   pub long : n ≡ length (printLocation k tree)
   pub wrong : f ≡ faults (muNumbers (endsNumbers k) at tree)
-
--- by what was parsed
-by-answer : {A X B : Type 0} (answer : Option A → X) (o : Option A) {x : X} → x ≡ answer o → (o ≡ none → x ≡ answer none → B) → ((t : A) → o ≡ some t → x ≡ answer (some t) → B) → B
-by-answer answer none e f g = f refl e
-by-answer answer (some t) e f g = g t refl e
 
 module _ (k : Kind) (at : ℕ) (s : List ℕ) where
   pub position-told : (p : Position) (n : ℕ) (f : Faults) → PR.Found p n f ≡ positionAnswer k at (parsePosition k s) → PositionTold k at s p n f

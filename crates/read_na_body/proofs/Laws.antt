@@ -1,8 +1,8 @@
 -- Laws of bodies: what is made of location and edit, and what reading one after the other answers.
 use Prim.Native.Nat.{ℕ, _+_, _-_, _≤_}
-use mathlib.Core.Path.{_≡_, refl, sym, ap, _∙_}
+use mathlib.Core.Path.{_≡_, sym, ap, _∙_}
 use mathlib.Core.List.{List, [], _∷_, _++_}
-use mathlib.Core.Option.{Option, none, some}
+use mathlib.Core.Option.{none, some}
 use mathlib.Core.Bool.{Bool, true, false, cond}
 use native.Mathlib.Omega.{arith}
 use lib.Dec.{eqb}
@@ -15,10 +15,10 @@ use Rattle.record.specs.declared.variant.Kind.{Kind}
 use Rattle.record.specs.declared.variant.Kind.the-variants.{Cds, Genome, Mt, Tx, Prot, Rna}
 use Rattle.record.specs.declared.edits.MuNaEdit.{MuNaEdit}
 use Rattle.record.specs.declared.variant.Body.the-variants as Bo
-use Rattle.grammar.specs.Shapes.{Mu, Both, Both.both, printMu}
-use Rattle.grammar.specs.NucleotideEdits.{NaEdit, printNaEdit}
+use Rattle.grammar.specs.Shapes.{Both, Both.both, printMu}
+use Rattle.grammar.specs.NucleotideEdits.{printNaEdit}
 use Rattle.grammar.specs.Bodies.{printLocation, printNaBody}
-use Rattle.grammar.specs.Records.{muNaEditAt, MuIntervalR}
+use Rattle.grammar.specs.Records.{MuIntervalR}
 use Rattle.grammar.specs.Numbers.{muNumbers, endsNumbers, naEditNumbers, naBodyNumbers}
 use Rattle.lang.specs.Lang.{within}
 use Rattle.lang.specs.Whole.{whole, ended}
@@ -32,8 +32,7 @@ use Rattle.scan.specs.Faults.{faults, first, faults-append}
 use Rattle.read_location.specs.declared.Location as Raw
 use Rattle.read_location.specs.Records.{locationFor}
 use Rattle.read_location.specs.Told.{LocationTold, location-within}
-use Rattle.read_na_edit.specs.declared.MuNaEditRead.the-variants as ER
-use Rattle.read_na_edit.specs.Answer.{muNaEditAnswer}
+use Rattle.read_na_edit.specs.Told.{MuTold}
 use Rattle.read_na_body.specs.declared.BodyRead.{BodyRead}
 use Rattle.read_na_body.specs.declared.BodyRead.the-variants.{Nothing, Found}
 use Rattle.read_na_body.specs.Answer.{locEdit, naBodyOf, naAnswer}
@@ -56,29 +55,6 @@ module _ (l : Raw.Location) (e : MuNaEdit) where
   made-rna kind m p q = rw (p, q)
 
 -- ---- a location, and behind it an edit
-pub record EditTold (at : ℕ) (s : List ℕ) (e : MuNaEdit) (n : ℕ) (f : Faults) : Type 0 where
-  pub tree : Mu NaEdit
-  pub parsed : muNaEditLang nucleotide nucleotides .parse s ≡ some tree
-  pub means : e ≡ muNaEditAt at tree
-  pub long : n ≡ length (printMu printNaEdit tree)
-  pub wrong : f ≡ faults (muNumbers naEditNumbers at tree)
-
-pub edit-told : (at : ℕ) (s : List ℕ) (e : MuNaEdit) (n : ℕ) (f : Faults) → ER.Found e n f ≡ muNaEditAnswer at (muNaEditLang nucleotide nucleotides .parse s) → EditTold at s e n f
-unfolding muNaEditAnswer
-edit-told at s d n f h = go (muNaEditLang nucleotide nucleotides .parse s) refl h
-  where
-    go : (o : Option (Mu NaEdit)) → muNaEditLang nucleotide nucleotides .parse s ≡ o → ER.Found d n f ≡ muNaEditAnswer at o → EditTold at s d n f
-    go none q e = absurd (let z : _≡_ {A = ℕ} 0 1 = cc in omega arith)
-    go (some t) q e = record { tree = t; parsed = q; means = cc; long = cc; wrong = cc }
-
-pub edit-none : (at : ℕ) (s : List ℕ) → ER.Nothing ≡ muNaEditAnswer at (muNaEditLang nucleotide nucleotides .parse s) → muNaEditLang nucleotide nucleotides .parse s ≡ none
-unfolding muNaEditAnswer
-edit-none at s h = go (muNaEditLang nucleotide nucleotides .parse s) refl h
-  where
-    go : (o : Option (Mu NaEdit)) → muNaEditLang nucleotide nucleotides .parse s ≡ o → ER.Nothing ≡ muNaEditAnswer at o → muNaEditLang nucleotide nucleotides .parse s ≡ none
-    go none q e = q
-    go (some t) q e = absurd (let z : _≡_ {A = ℕ} 0 1 = cc in omega arith)
-
 module _ (k : Kind) (at : ℕ) (s : List ℕ) where
   abbrev pub answer : BodyRead
   answer = naAnswer k at (whole (naBodyLang nucleotide nucleotides k) s)
@@ -96,7 +72,7 @@ module _ (k : Kind) (at : ℕ) (s : List ℕ) where
     unfolding naAnswer whole parseBoth
     no-edit e = rw (x .parsed, rw rest at e)
 
-    module _ {d : MuNaEdit} {m : ℕ} {g : Faults} (y : EditTold (at + n) (take (length s - n) (drop n s)) d m g) where
+    module _ {d : MuNaEdit} {m : ℕ} {g : Faults} (y : MuTold (at + n) (take (length s - n) (drop n s)) d m g) where
       pub edit-le : n + m ≤ length s
       edit-le =
           let h = within (muNaEditLang nucleotide nucleotides) (take (length s - n) (drop n s)) (y .tree) (y .parsed) in

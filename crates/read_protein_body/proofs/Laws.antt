@@ -21,24 +21,26 @@ use Rattle.record.specs.declared.variant.ProtLocEdit.the-variants.{Ordinary}
 use Rattle.record.specs.declared.variant.Body.the-variants as Bo
 use Rattle.grammar.specs.Shapes.{Mu, Mu.certain, Mu.uncertain, Both, Both.both, printMu}
 use Rattle.grammar.specs.ProteinEdits.{ProteinEdit, printProteinEdit}
-use Rattle.grammar.specs.Bodies.{Ends, printEnds, ProteinBody, ProteinBody.met1, ProteinBody.bracketedMet1, ProteinBody.noProteinUncertain, ProteinBody.noProtein, ProteinBody.noChangeUncertain, ProteinBody.noChange, ProteinBody.unknown, ProteinBody.change, ProteinBody.bracketed, printProteinBody}
-use Rattle.grammar.specs.Records.{intervalAt, locationAt, uncertainly, proteinEditAt, muProteinEditAt, proteinBodyAt}
+use Rattle.grammar.specs.Bodies.{printEnds, ProteinBody, ProteinBody.met1, ProteinBody.bracketedMet1, ProteinBody.noProteinUncertain, ProteinBody.noProtein, ProteinBody.noChangeUncertain, ProteinBody.noChange, ProteinBody.unknown, ProteinBody.change, ProteinBody.bracketed, printProteinBody}
+use Rattle.grammar.specs.Records.{intervalAt, locationAt, uncertainly, proteinEditAt, proteinBodyAt}
 use Rattle.grammar.specs.Numbers.{muNumbers, endsNumbers, proteinEditNumbers, proteinBodyNumbers}
+use Rattle.lang.specs.Answer.{by-answer}
 use Rattle.lang.specs.Lang.{within}
 use Rattle.lang.specs.Canon.{mapO}
 use Rattle.location.specs.Languages.{endsLang}
 use Rattle.protein_edits.specs.Instance.{proteinEditLang, muProteinEditLang}
-use Rattle.bodies.specs.ProteinBodies.{exactBodies, firstExact, onEnds, insideBrackets, afterLocation, closing, parsePlain, parseOpened, parseOrdinary, ended, parseProteinBody}
+use Rattle.bodies.specs.ProteinBodies.{exactBodies, firstExact, closing, parsePlain, parseOpened, parseOrdinary, parseProteinBody}
 use Rattle.scan.specs.declared.Faults.{Faults}
 use Rattle.scan.specs.Faults.{faults, first, faults-append, faults-nil, none as noFaults}
 use Rattle.read_location.specs.declared.Location.{Location}
 use Rattle.read_location.specs.declared.LocationRead.the-variants as LR
 use Rattle.read_location.specs.Answer.{intervalOf, uncertainOf, intervalAnswer}
 use Rattle.read_location.specs.Records.{locationFor, location-for, uncertain-for}
-use Rattle.read_location.specs.Told.{IntervalTold}
+use Rattle.read_location.specs.Told.{IntervalTold, interval-unread, interval-within}
 use Rattle.read_protein_edit.specs.declared.ProteinEditRead.the-variants as PR
 use Rattle.read_protein_edit.specs.declared.MuProteinEditRead.the-variants as MR
 use Rattle.read_protein_edit.specs.Answer.{proteinEditAnswer, muProteinEditAnswer}
+use Rattle.read_protein_edit.specs.Told.{EditTold, MuTold, edit-unread, mu-unread}
 use Rattle.read_na_body.specs.declared.BodyRead.{BodyRead}
 use Rattle.read_na_body.specs.declared.BodyRead.the-variants as BR
 use Rattle.read_na_body.specs.Answer.{bodyAnswer}
@@ -69,53 +71,13 @@ unfolding firstExact
 no-exact s = refl
 
 -- ---- the edit that was read
-pub record MuTold (at : ℕ) (s : List ℕ) (d : MuProteinEdit) (n : ℕ) (f : Faults) : Type 0 where
-  pub tree : Mu ProteinEdit
-  pub parsed : muProteinEditLang .parse s ≡ some tree
-  pub means : d ≡ muProteinEditAt at tree
-  pub long : n ≡ length (printMu printProteinEdit tree)
-  pub wrong : f ≡ faults (muNumbers proteinEditNumbers at tree)
-
-pub record EditTold (at : ℕ) (s : List ℕ) (d : Record.ProteinEdit) (n : ℕ) (f : Faults) : Type 0 where
-  pub tree : ProteinEdit
-  pub parsed : proteinEditLang .parse s ≡ some tree
-  pub means : d ≡ proteinEditAt at tree
-  pub long : n ≡ length (printProteinEdit tree)
-  pub wrong : f ≡ faults (proteinEditNumbers at tree)
-
 module _ (at : ℕ) (s : List ℕ) where
-  pub mu-told : (d : MuProteinEdit) (n : ℕ) (f : Faults) → MR.Found d n f ≡ muProteinEditAnswer at (muProteinEditLang .parse s) → MuTold at s d n f
-  unfolding muProteinEditAnswer
-  mu-told d n f h = go (muProteinEditLang .parse s) refl h
-    where
-      go : (o : Option (Mu ProteinEdit)) → muProteinEditLang .parse s ≡ o → MR.Found d n f ≡ muProteinEditAnswer at o → MuTold at s d n f
-      go none q e = absurd (let z : _≡_ {A = ℕ} 0 1 = cc in omega arith)
-      go (some t) q e = record { tree = t; parsed = q; means = cc; long = cc; wrong = cc }
-
-  pub edit-told : (d : Record.ProteinEdit) (n : ℕ) (f : Faults) → PR.Found d n f ≡ proteinEditAnswer at (proteinEditLang .parse s) → EditTold at s d n f
-  unfolding proteinEditAnswer
-  edit-told d n f h = go (proteinEditLang .parse s) refl h
-    where
-      go : (o : Option ProteinEdit) → proteinEditLang .parse s ≡ o → PR.Found d n f ≡ proteinEditAnswer at o → EditTold at s d n f
-      go none q e = absurd (let z : _≡_ {A = ℕ} 0 1 = cc in omega arith)
-      go (some t) q e = record { tree = t; parsed = q; means = cc; long = cc; wrong = cc }
-
   module _ (l : Location) (n : ℕ) (f : Faults) where
     pub mu-none : MR.Nothing ≡ muProteinEditAnswer at (muProteinEditLang .parse s) → OR.Nothing ≡ afterAnswer l n f at (muProteinEditLang .parse s)
-    unfolding muProteinEditAnswer
-    mu-none h = go (muProteinEditLang .parse s) h
-      where
-        go : (o : Option (Mu ProteinEdit)) → MR.Nothing ≡ muProteinEditAnswer at o → OR.Nothing ≡ afterAnswer l n f at o
-        go none e = refl
-        go (some t) e = absurd (let z : _≡_ {A = ℕ} 0 1 = cc in omega arith)
+    mu-none h = rw (mu-unread at s h)
 
     pub edit-none : PR.Nothing ≡ proteinEditAnswer at (proteinEditLang .parse s) → OR.Nothing ≡ insideAnswer l n f at s (proteinEditLang .parse s)
-    unfolding proteinEditAnswer
-    edit-none h = go (proteinEditLang .parse s) h
-      where
-        go : (o : Option ProteinEdit) → PR.Nothing ≡ proteinEditAnswer at o → OR.Nothing ≡ insideAnswer l n f at s o
-        go none e = refl
-        go (some t) e = absurd (let z : _≡_ {A = ℕ} 0 1 = cc in omega arith)
+    edit-none h = rw (edit-unread at s h)
 
     -- behind a location
     module _ {d : MuProteinEdit} {m : ℕ} {g : Faults} (y : MuTold at s d m g) where
@@ -154,26 +116,15 @@ module _ (at : ℕ) (s : List ℕ) where
 -- ---- the interval, and what stands behind it
 module _ (at : ℕ) (s : List ℕ) where
   pub plain-none : LR.Nothing ≡ intervalAnswer Prot at (endsLang Prot .parse s) → OR.Nothing ≡ ordinaryAnswer at (parsePlain s)
-  unfolding intervalAnswer ordinaryAnswer parsePlain
-  plain-none h = go (endsLang Prot .parse s) h
-    where
-      go : (o : Option (Ends Prot)) → LR.Nothing ≡ intervalAnswer Prot at o → OR.Nothing ≡ ordinaryAnswer at (onEnds (λ i r. afterLocation (certain i) r) s o)
-      go none e = refl
-      go (some t) e = absurd (let z : _≡_ {A = ℕ} 0 1 = cc in omega arith)
+  unfolding ordinaryAnswer parsePlain
+  plain-none h = rw (interval-unread Prot at s h)
 
   pub opened-none : LR.Nothing ≡ intervalAnswer Prot (at + 1) (endsLang Prot .parse s) → OR.Nothing ≡ ordinaryAnswer at (parseOpened s)
-  unfolding intervalAnswer ordinaryAnswer parseOpened
-  opened-none h = go (endsLang Prot .parse s) h
-    where
-      go : (o : Option (Ends Prot)) → LR.Nothing ≡ intervalAnswer Prot (at + 1) o → OR.Nothing ≡ ordinaryAnswer at (onEnds insideBrackets s o)
-      go none e = refl
-      go (some t) e = absurd (let z : _≡_ {A = ℕ} 0 1 = cc in omega arith)
+  unfolding ordinaryAnswer parseOpened
+  opened-none h = rw (interval-unread Prot (at + 1) s h)
 
   -- a certain location
   module _ {l : Location} {n : ℕ} {f : Faults} (x : IntervalTold Prot at s l n f) where
-    pub interval-le : n ≤ length s
-    interval-le = rw (x .long) (within (endsLang Prot) s (x .tree) (x .parsed))
-
     behind : take (length s - n) (drop n s) ≡ drop (length (printEnds Prot (x .tree))) s
     behind = tail-part n s ∙ ap (λ (i : ℕ). drop i s) (x .long)
 
@@ -193,11 +144,8 @@ module _ (at : ℕ) (s : List ℕ) where
 
 -- behind an opening bracket at `at`
 module _ (at : ℕ) (s : List ℕ) {l : Location} {n : ℕ} {f : Faults} (x : IntervalTold Prot (at + 1) s l n f) where
-  after : take (length s - n) (drop n s) ≡ drop (length (printEnds Prot (x .tree))) s
-  after = tail-part n s ∙ ap (λ (i : ℕ). drop i s) (x .long)
-
   pub closed-le : starts (ascii ")") (take (length s - n) (drop n s)) ≡ true → n + 1 ≤ length s
-  closed-le e = omega (arith, starts-length (ascii ")") (take (length s - n) (drop n s)) e, ap length (tail-part n s), length-drop n s, interval-le (at + 1) s x)
+  closed-le e = omega (arith, starts-length (ascii ")") (take (length s - n) (drop n s)) e, ap length (tail-part n s), length-drop n s, interval-within x)
 
   -- `(`location`)`, then an edit
   after-shut : (u : Location) → u ≡ uncertainOf l → (o : Option (Mu ProteinEdit)) → afterAnswer u (1 + (n + 1)) f (at + (1 + (n + 1))) o ≡ ordinaryAnswer at (mapO (λ e. change (both (uncertain (x .tree)) e)) o)
@@ -216,7 +164,7 @@ module _ (at : ℕ) (s : List ℕ) {l : Location} {n : ℕ} {f : Faults} (x : In
   unfolding parseOpened
   shut-found q u h r e =
       let w : take (length s - (n + 1)) (drop (n + 1) s) ≡ drop 1 (drop (length (printEnds Prot (x .tree))) s) = tail-part (n + 1) s ∙ sym (drop-drop 1 n s) ∙ ap (λ (i : ℕ). drop 1 (drop i s)) (x .long) in
-      e ∙ after-shut u h (muProteinEditLang .parse (take (length s - (n + 1)) (drop (n + 1) s))) ∙ rw (x .parsed, rw after at q, w)
+      e ∙ after-shut u h (muProteinEditLang .parse (take (length s - (n + 1)) (drop (n + 1) s))) ∙ rw (x .parsed, rw (behind (at + 1) s x) at q, w)
 
   -- `(`location edit`)`
   inside-closing : (r : List ℕ) (o : Option ProteinEdit) → insideAnswer l n f (at + 1 + n) r o ≡ ordinaryAnswer at (closing (x .tree) r o)
@@ -238,7 +186,7 @@ module _ (at : ℕ) (s : List ℕ) {l : Location} {n : ℕ} {f : Faults} (x : In
   pub brackets-found : starts (ascii ")") (take (length s - n) (drop n s)) ≡ false → (r : OrdinaryRead)
       → r ≡ insideAnswer l n f (at + 1 + n) (take (length s - n) (drop n s)) (proteinEditLang .parse (take (length s - n) (drop n s))) → r ≡ ordinaryAnswer at (parseOpened s)
   unfolding parseOpened
-  brackets-found q r e = e ∙ inside-closing (take (length s - n) (drop n s)) (proteinEditLang .parse (take (length s - n) (drop n s))) ∙ rw (x .parsed, rw after at q, after)
+  brackets-found q r e = e ∙ inside-closing (take (length s - n) (drop n s)) (proteinEditLang .parse (take (length s - n) (drop n s))) ∙ rw (x .parsed, rw (behind (at + 1) s x) at q, behind (at + 1) s x)
 
 -- ---- the whole body
 module _ (at : ℕ) (s : List ℕ) where
@@ -257,18 +205,12 @@ pub record ExactTold (s : List ℕ) (b : ProtLocEdit) : Type 0 where
   pub means : b ≡ proteinBodyAt 0 tree
 
 pub exact-told : (s : List ℕ) (b : ProtLocEdit) → ER.Found b ≡ exactAnswer (firstExact exactBodies s) → ExactTold s b
-exact-told s b h = go (firstExact exactBodies s) refl h
-  where
-    go : (o : Option ProteinBody) → firstExact exactBodies s ≡ o → ER.Found b ≡ exactAnswer o → ExactTold s b
-    go none q e = absurd (let z : _≡_ {A = ℕ} 0 1 = cc in omega arith)
-    go (some t) q e = record { tree = t; parsed = q; means = cc }
+exact-told s b h =
+    by-answer exactAnswer (firstExact exactBodies s) h (λ q z. absurd (let y : _≡_ {A = ℕ} 0 1 = cc in omega arith))
+    (λ t q z. record { tree = t; parsed = q; means = cc })
 
 pub exact-none : (s : List ℕ) → ER.Nothing ≡ exactAnswer (firstExact exactBodies s) → firstExact exactBodies s ≡ none
-exact-none s h = go (firstExact exactBodies s) refl h
-  where
-    go : (o : Option ProteinBody) → firstExact exactBodies s ≡ o → ER.Nothing ≡ exactAnswer o → firstExact exactBodies s ≡ none
-    go none q e = q
-    go (some t) q e = absurd (let z : _≡_ {A = ℕ} 0 1 = cc in omega arith)
+exact-none s h = by-answer exactAnswer (firstExact exactBodies s) h (λ q z. q) (λ t q z. absurd (let y : _≡_ {A = ℕ} 0 1 = cc in omega arith))
 
 -- a body without location has no place and no number
 abbrev Placeless : ProteinBody → Type 0
@@ -297,11 +239,9 @@ pub record OrdinaryTold (at : ℕ) (s : List ℕ) (b : ProtLocEdit) (n : ℕ) (f
 module _ (at : ℕ) (s : List ℕ) where
   pub ordinary-told : (b : ProtLocEdit) (n : ℕ) (f : Faults) → OR.Found b n f ≡ ordinaryAnswer at (parseOrdinary s) → OrdinaryTold at s b n f
   unfolding ordinaryAnswer
-  ordinary-told b n f h = go (parseOrdinary s) refl h
-    where
-      go : (o : Option ProteinBody) → parseOrdinary s ≡ o → OR.Found b n f ≡ ordinaryAnswer at o → OrdinaryTold at s b n f
-      go none q e = absurd (let z : _≡_ {A = ℕ} 0 1 = cc in omega arith)
-      go (some t) q e = record { tree = t; parsed = q; means = cc; long = cc; wrong = cc }
+  ordinary-told b n f h =
+      by-answer (ordinaryAnswer at) (parseOrdinary s) h (λ q z. absurd (let y : _≡_ {A = ℕ} 0 1 = cc in omega arith))
+      (λ t q z. record { tree = t; parsed = q; means = cc; long = cc; wrong = cc })
 
   pub exact-found : (b : ProtLocEdit) (w : Faults) → ExactTold s b → w ≡ noFaults → BR.Found (Bo.Prot b) w ≡ bodyAnswer Prot at (parseProteinBody s)
   unfolding bodyAnswer parseProteinBody
@@ -314,11 +254,7 @@ module _ (at : ℕ) (s : List ℕ) where
   module _ (none-exact : firstExact exactBodies s ≡ none) where
     pub body-none : OR.Nothing ≡ ordinaryAnswer at (parseOrdinary s) → BR.Nothing ≡ bodyAnswer Prot at (parseProteinBody s)
     unfolding bodyAnswer parseProteinBody ordinaryAnswer
-    body-none h = rw none-exact (go (parseOrdinary s) h)
-      where
-        go : (o : Option ProteinBody) → OR.Nothing ≡ ordinaryAnswer at o → BR.Nothing ≡ bodyAnswer Prot at (ended s o)
-        go none e = refl
-        go (some t) e = absurd (let z : _≡_ {A = ℕ} 0 1 = cc in omega arith)
+    body-none h = by-answer (ordinaryAnswer at) (parseOrdinary s) h (λ q z. rw (none-exact, q)) (λ t q z. absurd (let y : _≡_ {A = ℕ} 0 1 = cc in omega arith))
 
     module _ {b : ProtLocEdit} {n : ℕ} {f : Faults} (x : OrdinaryTold at s b n f) where
       pub body-open : (n ≡ length s → ⊥) → BR.Nothing ≡ bodyAnswer Prot at (parseProteinBody s)

@@ -5,7 +5,8 @@ use native.Mathlib.Omega.{arith}
 use lib.ListN.{length, take, drop}
 use Rattle.texts.specs.Slices.{tail-room}
 use Rattle.read_location.specs.Told.{LocationTold, location-told, location-unread, location-within}
-use Rattle.read_na_body.proofs.Laws.{EditTold, edit-told, edit-none, no-location, no-edit, edit-le, not-ended, body-found}
+use Rattle.read_na_edit.specs.Told.{MuTold, mu-told, mu-unread}
+use Rattle.read_na_body.proofs.Laws.{no-location, no-edit, edit-le, not-ended, body-found}
 use borrow.Author.Needs.{needs}
 use Rattle.read_na_body.proofs.na_body.Statement.{statement}
 use Rattle.read_na_body.proofs.na_body.Tie as tie
@@ -14,8 +15,8 @@ use Rattle.read_na_body.proofs.na_body.Tie as tie
 loc : (c : tie.After-l) → LocationTold (c .before .before .before .before .args .kind) (c .before .before .before .before .args .at) (c .before .before .before .before .args .s .now) (c .l .given .0 .0) (c .l .given .0 .1 .0) (c .l .given .0 .1 .1 .0)
 loc c = location-told _ _ _ _ _ _ (sym (c .l .given .1) ∙ c .before .before .location-at .ensures)
 
-edit : (c : tie.After-edit) → EditTold (c .before .before .before .before .before .before .before .before .before .args .at + c .before .before .before .before .before .l .given .0 .1 .0) (take (length (c .before .before .before .before .before .before .before .before .before .args .s .now) - c .before .before .before .before .before .l .given .0 .1 .0) (drop (c .before .before .before .before .before .l .given .0 .1 .0) (c .before .before .before .before .before .before .before .before .before .args .s .now))) (c .edit .given .0 .0) (c .edit .given .0 .1 .0) (c .edit .given .0 .1 .1 .0)
-edit c = edit-told _ _ _ _ _ (sym (c .edit .given .1) ∙ c .before .before .mu-na-edit-at .ensures)
+edit : (c : tie.After-edit) → MuTold (c .before .before .before .before .before .before .before .before .before .args .at + c .before .before .before .before .before .l .given .0 .1 .0) (take (length (c .before .before .before .before .before .before .before .before .before .args .s .now) - c .before .before .before .before .before .l .given .0 .1 .0) (drop (c .before .before .before .before .before .l .given .0 .1 .0) (c .before .before .before .before .before .before .before .before .before .args .s .now))) (c .edit .given .0 .0) (c .edit .given .0 .1 .0) (c .edit .given .0 .1 .1 .0)
+edit c = mu-told _ _ _ _ _ (sym (c .edit .given .1) ∙ c .before .before .mu-na-edit-at .ensures)
 
 location-at-requires : tie.Need-location-at-requires
 location-at-requires c κs = search needs
@@ -51,7 +52,7 @@ enum-told-2 : tie.Need-enum-told-2
 enum-told-2 c = search needs
 
 returns-2 : tie.Need-returns-2
-returns-2 c = no-edit _ _ _ (loc (c .before .before .before .before .before)) (edit-none _ _ (sym (c .enum-told2 .given .1) ∙ c .before .before .mu-na-edit-at .ensures))
+returns-2 c = no-edit _ _ _ (loc (c .before .before .before .before .before)) (mu-unread _ _ (sym (c .enum-told2 .given .1) ∙ c .before .before .mu-na-edit-at .ensures))
 
 add-if1 : tie.Need-add-if1
 add-if1 c = omega (arith, edit-le _ _ _ (loc (c .before .before .before .before .before .before)) (edit (c .before)))

@@ -1,7 +1,8 @@
 -- `read_protein_body::after_location` meets its contract.
 use mathlib.Core.Path.{_≡_, sym, _∙_}
 use native.Mathlib.Omega.{arith}
-use Rattle.read_protein_body.proofs.Laws.{MuTold, mu-told, mu-none, mu-le, after-found}
+use Rattle.read_protein_edit.specs.Told.{MuTold, mu-told}
+use Rattle.read_protein_body.proofs.Laws.{mu-none, mu-le, after-found}
 use borrow.Author.Needs.{needs}
 use Rattle.read_protein_body.proofs.after_location.Statement.{statement}
 use Rattle.read_protein_body.proofs.after_location.Tie as tie

@@ -8,8 +8,8 @@ use Rattle.texts.specs.Ascii.{ascii}
 use Rattle.texts.specs.Words.{starts}
 use Rattle.texts.specs.Slices.{tail-room}
 use Rattle.record.specs.declared.variant.Kind.the-variants.{Prot}
-use Rattle.read_location.specs.Told.{IntervalTold, interval-told}
-use Rattle.read_protein_body.proofs.Laws.{opened-none, interval-le, closed-le, shut-found, brackets-found}
+use Rattle.read_location.specs.Told.{IntervalTold, interval-told, interval-within}
+use Rattle.read_protein_body.proofs.Laws.{opened-none, closed-le, shut-found, brackets-found}
 use borrow.Author.Needs.{needs}
 use Rattle.read_protein_body.proofs.opened.Statement.{statement}
 use Rattle.read_protein_body.proofs.opened.Tie as tie
@@ -37,10 +37,10 @@ returns : tie.Need-returns
 returns c = opened-none _ _ (sym (c .enum-told .given .1) ∙ c .before .before .interval-at .ensures)
 
 sub-begins : tie.Need-sub-begins
-sub-begins c = interval-le _ _ (ends (c .before))
+sub-begins c = interval-within (ends (c .before))
 
 part-begins-start : tie.Need-part-begins-start
-part-begins-start c = interval-le _ _ (ends (c .before))
+part-begins-start c = interval-within (ends (c .before))
 
 part-begins-end : tie.Need-part-begins-end
 part-begins-end c = search needs
@@ -83,10 +83,10 @@ returns-2 : tie.Need-returns-2
 returns-2 c = shut-found _ _ (ends (c .before .before .before .before .before .before .before .before)) (shut (c .before .before .before)) _ (c .before .before .uncertain .ensures) _ (c .after-location .ensures)
 
 sub-inside-brackets : tie.Need-sub-inside-brackets
-sub-inside-brackets c = interval-le _ _ (ends (c .before .before .before .before .before))
+sub-inside-brackets c = interval-within (ends (c .before .before .before .before .before))
 
 part-inside-brackets-start : tie.Need-part-inside-brackets-start
-part-inside-brackets-start c = interval-le _ _ (ends (c .before .before .before .before .before))
+part-inside-brackets-start c = interval-within (ends (c .before .before .before .before .before))
 
 part-inside-brackets-end : tie.Need-part-inside-brackets-end
 part-inside-brackets-end c = search needs
@@ -95,10 +95,10 @@ add-inside-brackets : tie.Need-add-inside-brackets
 add-inside-brackets c = search needs
 
 add-inside-brackets-2 : tie.Need-add-inside-brackets-2
-add-inside-brackets-2 c = omega (arith, interval-le _ _ (ends (c .before .before .before .before .before .before)), c .before .before .before .before .before .before .before .before .before .before .pre)
+add-inside-brackets-2 c = omega (arith, interval-within (ends (c .before .before .before .before .before .before)), c .before .before .before .before .before .before .before .before .before .before .pre)
 
 inside-brackets-requires : tie.Need-inside-brackets-requires
-inside-brackets-requires c κs = (tail-room _ _ (c .before .before .before .before .before .before .before .before .before .before .args .s .now) (c .before .before .before .before .before .before .before .before .before .before .pre) (interval-le _ _ (ends (c .before .before .before .before .before .before))), omega (arith, interval-le _ _ (ends (c .before .before .before .before .before .before)), c .before .before .before .before .before .before .before .before .before .before .pre))
+inside-brackets-requires c κs = (tail-room _ _ (c .before .before .before .before .before .before .before .before .before .before .args .s .now) (c .before .before .before .before .before .before .before .before .before .before .pre) (interval-within (ends (c .before .before .before .before .before .before))), omega (arith, interval-within (ends (c .before .before .before .before .before .before)), c .before .before .before .before .before .before .before .before .before .before .pre))
 
 returns-3 : tie.Need-returns-3
 returns-3 c = brackets-found _ _ (ends (c .before .before .before .before .before .before .before)) (sym (c .before .before .before .begins .ensures) ∙ c .before .before .if1 .left) _ (c .inside-brackets .ensures)

@@ -2,9 +2,9 @@
 use mathlib.Core.Path.{_≡_, sym, _∙_}
 use native.Mathlib.Omega.{arith}
 use Rattle.record.specs.declared.variant.Kind.the-variants.{Prot}
-use Rattle.read_location.specs.Told.{IntervalTold, interval-told}
+use Rattle.read_location.specs.Told.{IntervalTold, interval-told, interval-within}
 use Rattle.texts.specs.Slices.{tail-room}
-use Rattle.read_protein_body.proofs.Laws.{plain-none, interval-le, plain-found}
+use Rattle.read_protein_body.proofs.Laws.{plain-none, plain-found}
 use borrow.Author.Needs.{needs}
 use Rattle.read_protein_body.proofs.plain.Statement.{statement}
 use Rattle.read_protein_body.proofs.plain.Tie as tie
@@ -26,19 +26,19 @@ returns : tie.Need-returns
 returns c = plain-none _ _ (sym (c .enum-told .given .1) ∙ c .before .before .interval-at .ensures)
 
 sub-after-location : tie.Need-sub-after-location
-sub-after-location c = interval-le _ _ (ends (c .before))
+sub-after-location c = interval-within (ends (c .before))
 
 part-after-location-start : tie.Need-part-after-location-start
-part-after-location-start c = interval-le _ _ (ends (c .before))
+part-after-location-start c = interval-within (ends (c .before))
 
 part-after-location-end : tie.Need-part-after-location-end
 part-after-location-end c = search needs
 
 add-after-location : tie.Need-add-after-location
-add-after-location c = omega (arith, interval-le _ _ (ends (c .before .before)), c .before .before .before .before .before .before .pre)
+add-after-location c = omega (arith, interval-within (ends (c .before .before)), c .before .before .before .before .before .before .pre)
 
 after-location-requires : tie.Need-after-location-requires
-after-location-requires c κs = (tail-room _ _ (c .before .before .before .before .before .before .args .s .now) (c .before .before .before .before .before .before .pre) (interval-le _ _ (ends (c .before .before))), omega (arith, interval-le _ _ (ends (c .before .before)), c .before .before .before .before .before .before .pre))
+after-location-requires c κs = (tail-room _ _ (c .before .before .before .before .before .before .args .s .now) (c .before .before .before .before .before .before .pre) (interval-within (ends (c .before .before))), omega (arith, interval-within (ends (c .before .before)), c .before .before .before .before .before .before .pre))
 
 returns-2 : tie.Need-returns-2
 returns-2 c = plain-found _ _ (ends (c .before .before .before)) _ (c .after-location .ensures)
