@@ -14,10 +14,11 @@ use Rattle.record.specs.declared.variant.Kind.{Kind}
 use Rattle.grammar.specs.Positions as Tree
 use Rattle.grammar.specs.Positions.{printPosition}
 use Rattle.grammar.specs.Shapes.{Interval.one, Interval.two, Mu.certain}
-use Rattle.grammar.specs.Bodies.{Ends, printEnds}
-use Rattle.grammar.specs.Numbers.{positionNumbers, endsNumbers}
+use Rattle.grammar.specs.Bodies.{Ends}
+use Rattle.grammar.specs.Numbers.{positionNumbers}
 use Rattle.lang.specs.Lang.{within}
 use Rattle.lang.specs.IntervalLang.{parseInterval}
+use Rattle.lang.specs.MuReading as Reading
 use Rattle.lang.specs.MuLang.{bare, parseMu}
 use Rattle.scan.specs.declared.Faults.{Faults}
 use Rattle.scan.specs.Faults.{faults, first, faults-append}
@@ -117,38 +118,25 @@ module _ (k : Kind) (at : ℕ) (s : List ℕ) where
     unfolding parseMu locationAnswer
     open-none e = rw (o, interval-unread k (at + 1) (drop 1 s) (rw (tail-part 1 s) at e))
 
-    -- where i stands behind the bracket
-    module _ (i : Ends k) (q : endsLang k .parse (drop 1 s) ≡ some i) where
-      left-is : starts (ascii ")") (drop (length (printEnds k i)) (drop 1 s)) ≡ false → Nothing ≡ locationAnswer k at (locationLang k .parse s)
-      unfolding parseMu locationAnswer
-      left-is c = rw (o, q, c)
-
-      shut-is : starts (ascii ")") (drop (length (printEnds k i)) (drop 1 s)) ≡ true
-          → Found (intervalOf k false (at + 1) i) (1 + length (printEnds k i) + 1) (faults (endsNumbers k (at + 1) i)) ≡ locationAnswer k at (locationLang k .parse s)
-      unfolding parseMu locationAnswer
-      shut-is c =
-          let l : 1 + length (printEnds k i) + 1 ≡ length (ascii "(" ++ (printEnds k i ++ ascii ")")) = simp length-append (omega arith) in
-          rw (o, q, c, l)
-
     -- what was read behind the bracket
     module _ {l : Location} {n : ℕ} {f : Faults} (inner : IntervalTold k (at + 1) (take (length s - 1) (drop 1 s)) l n f) where
       parsed-is : endsLang k .parse (drop 1 s) ≡ some (inner .tree)
       parsed-is = ap (endsLang k .parse) (sym (tail-part 1 s)) ∙ inner .parsed
 
       pub inner-le : 1 + n ≤ length s
-      inner-le = omega (arith, inner .long, within (endsLang k) (drop 1 s) (inner .tree) parsed-is, length-drop 1 s, open-le)
-
-      close-is : take (length s - (1 + n)) (drop (1 + n) s) ≡ drop (length (printEnds k (inner .tree))) (drop 1 s)
-      close-is = tail-part (1 + n) s ∙ sym (drop-drop n 1 s) ∙ ap (λ (x : ℕ). drop x (drop 1 s)) (inner .long)
+      inner-le = Reading.open-le (endsLang k) s o (inner .tree) n parsed-is (inner .long)
 
       pub open-left : starts (ascii ")") (take (length s - (1 + n)) (drop (1 + n) s)) ≡ false → Nothing ≡ locationAnswer k at (locationLang k .parse s)
-      open-left c = left-is (inner .tree) parsed-is (sym (ap (starts (ascii ")")) close-is) ∙ c)
+      unfolding locationAnswer
+      open-left c = rw (Reading.open-left (endsLang k) s o (inner .tree) n parsed-is (inner .long) (rw (tail-part (1 + n) s) at c))
 
       module _ (c : starts (ascii ")") (take (length s - (1 + n)) (drop (1 + n) s)) ≡ true) where
         pub shut-le : 1 + n + 1 ≤ length s
-        shut-le = omega (arith, starts-length (ascii ")") (drop (1 + n) s) (rw (tail-part (1 + n) s) at c), length-drop (1 + n) s, inner-le)
+        shut-le = Reading.open-room (endsLang k) s o (inner .tree) n parsed-is (inner .long) (rw (tail-part (1 + n) s) at c)
 
         pub open-shut : (u : Location) → u ≡ uncertainOf l → Found u (1 + n + 1) f ≡ locationAnswer k at (locationLang k .parse s)
+        unfolding locationAnswer
         open-shut u eu =
             let means : u ≡ intervalOf k false (at + 1) (inner .tree) = eu ∙ ap uncertainOf (inner .means) ∙ uncertain-is k (at + 1) (inner .tree) in
-            cc (shut-is (inner .tree) parsed-is (sym (ap (starts (ascii ")")) close-is) ∙ c))
+            let long = Reading.open-length (endsLang k) s o (inner .tree) n parsed-is (inner .long) in
+            rw (Reading.open-shut (endsLang k) s o (inner .tree) n parsed-is (inner .long) (rw (tail-part (1 + n) s) at c), means, long, inner .wrong)
