@@ -19,6 +19,7 @@ use Rattle.grammar.specs.Texts.{Text, Text.text, print, Wf, allLetters}
 use Rattle.grammar.specs.Records.{headerAt, bodyAt, recordAt}
 use Rattle.grammar.specs.Numbers.{misfit, bodyNumbers, numbersAt}
 use Rattle.alphabet.specs.Letters.{nucleotide}
+use Rattle.lang.specs.Answer.{by-answer}
 use Rattle.lang.specs.Lang.{within}
 use Rattle.lang.specs.Whole.{whole}
 use Rattle.lang.specs.Canon.{mapO}
@@ -83,27 +84,15 @@ pub record HeaderTold (s : List ℕ) (h : Record.Header) (n : ℕ) : Type 0 wher
 
 pub header-told : (s : List ℕ) (h : Record.Header) (n : ℕ) → HR.Found h n ≡ headerAnswer 0 (headerLang .parse s) → HeaderTold s h n
 unfolding headerAnswer
-header-told s h n e = go (headerLang .parse s) refl e
-  where
-    go : (o : Option Header) → headerLang .parse s ≡ o → HR.Found h n ≡ headerAnswer 0 o → HeaderTold s h n
-    go none q k = absurd (let z : _≡_ {A = ℕ} 0 1 = cc in omega arith)
-    go (some t) q k = record { tree = t; parsed = q; means = cc; long = cc }
+header-told s h n e = by-answer (headerAnswer 0) (headerLang .parse s) e (λ q z. absurd (let y : _≡_ {A = ℕ} 0 1 = cc in omega arith)) (λ t q z. record { tree = t; parsed = q; means = cc; long = cc })
 
 pub no-header : (s : List ℕ) → HR.Nothing ≡ headerAnswer 0 (headerLang .parse s) → Nothing ≡ textAnswer (parseText allLetters alphabets s)
 unfolding headerAnswer textAnswer parseText parseBoth
-no-header s e = go (headerLang .parse s) refl e
-  where
-    go : (o : Option Header) → headerLang .parse s ≡ o → HR.Nothing ≡ headerAnswer 0 o → Nothing ≡ textAnswer (parseText allLetters alphabets s)
-    go none q k = rw (q, parseText, parseBoth)
-    go (some t) q k = absurd (let z : _≡_ {A = ℕ} 0 1 = cc in omega arith)
+no-header s e = by-answer (headerAnswer 0) (headerLang .parse s) e (λ q z. rw (q, parseText, parseBoth)) (λ t q z. absurd (let y : _≡_ {A = ℕ} 0 1 = cc in omega arith))
 
 pub kind-told : (s : List ℕ) (k : Kind) → KR.Found k ≡ kindAnswer (kindLang .parse s) → kindLang .parse s ≡ some k
 unfolding kindAnswer
-kind-told s k e = go (kindLang .parse s) refl e
-  where
-    go : (o : Option Kind) → kindLang .parse s ≡ o → KR.Found k ≡ kindAnswer o → kindLang .parse s ≡ some k
-    go none q h = absurd (let z : _≡_ {A = ℕ} 0 1 = cc in omega arith)
-    go (some t) q h = let j : t ≡ k = cc in q ∙ ap some j
+kind-told s k e = by-answer kindAnswer (kindLang .parse s) e (λ q z. absurd (let y : _≡_ {A = ℕ} 0 1 = cc in omega arith)) (λ t q z. let j : t ≡ k = cc in q ∙ ap some j)
 
 module _ (s : List ℕ) {h : Record.Header} {n : ℕ} (x : HeaderTold s h n) where
   pub header-le : n ≤ length s
@@ -114,11 +103,9 @@ module _ (s : List ℕ) {h : Record.Header} {n : ℕ} (x : HeaderTold s h n) whe
 
   pub no-kind : KR.Nothing ≡ kindAnswer (kindLang .parse (take (length s - n) (drop n s))) → Nothing ≡ textAnswer (parseText allLetters alphabets s)
   unfolding kindAnswer textAnswer parseText parseBoth
-  no-kind e = go (kindLang .parse (take (length s - n) (drop n s))) refl e
-    where
-      go : (o : Option Kind) → kindLang .parse (take (length s - n) (drop n s)) ≡ o → KR.Nothing ≡ kindAnswer o → Nothing ≡ textAnswer (parseText allLetters alphabets s)
-      go none q k = rw (x .parsed, parseText, parseBoth, rw rest at q)
-      go (some t) q k = absurd (let z : _≡_ {A = ℕ} 0 1 = cc in omega arith)
+  no-kind e =
+      by-answer kindAnswer (kindLang .parse (take (length s - n) (drop n s))) e (λ q z. rw (x .parsed, parseText, parseBoth, rw rest at q))
+      (λ t q z. absurd (let y : _≡_ {A = ℕ} 0 1 = cc in omega arith))
 
   module _ {k : Kind} (y : kindLang .parse (take (length s - n) (drop n s)) ≡ some k) where
     pub kind-le : n + 3 ≤ length s
@@ -148,11 +135,10 @@ module _ (s : List ℕ) {h : Record.Header} {n : ℕ} (x : HeaderTold s h n) whe
 
     pub no-body : BR.Nothing ≡ bodyAnswer k (n + 3) (parseBody allLetters alphabets k (take (length s - (n + 3)) (drop (n + 3) s))) → Nothing ≡ textAnswer (parseText allLetters alphabets s)
     unfolding bodyAnswer textAnswer
-    no-body e = go (parseBody allLetters alphabets k (take (length s - (n + 3)) (drop (n + 3) s))) refl e
-      where
-        go : (o : Option (Body k)) → parseBody allLetters alphabets k (take (length s - (n + 3)) (drop (n + 3) s)) ≡ o → BR.Nothing ≡ bodyAnswer k (n + 3) o → Nothing ≡ textAnswer (parseText allLetters alphabets s)
-        go none q i = sym (text-is ∙ ap (λ (o : Option (Body k)). textAnswer (mapO (text (x .tree) k) o)) q)
-        go (some t) q i = absurd (let z : _≡_ {A = ℕ} 0 1 = cc in omega arith)
+    no-body e =
+        by-answer (bodyAnswer k (n + 3)) (parseBody allLetters alphabets k (take (length s - (n + 3)) (drop (n + 3) s))) e
+        (λ q z. sym (text-is ∙ ap (λ (o : Option (Body k)). textAnswer (mapO (text (x .tree) k) o)) q))
+        (λ t q z. absurd (let y : _≡_ {A = ℕ} 0 1 = cc in omega arith))
 
     pub text-found : (b : RecordBody.Body) (f : Faults) → BR.Found b f ≡ bodyAnswer k (n + 3) (parseBody allLetters alphabets k (take (length s - (n + 3)) (drop (n + 3) s))) → Found (record { header = h; body = b }) f ≡ textAnswer (parseText allLetters alphabets s)
     text-found b f e = body-answer (parseBody allLetters alphabets k (take (length s - (n + 3)) (drop (n + 3) s))) b f e ∙ sym text-is
@@ -166,20 +152,17 @@ pub record TextTold (s : List ℕ) (v : HgvsVariant) (f : Faults) : Type 0 where
 
 pub text-told : (s : List ℕ) (v : HgvsVariant) (f : Faults) → Found v f ≡ textAnswer (parseText allLetters alphabets s) → TextTold s v f
 unfolding textAnswer faults
-text-told s v f e = go (parseText allLetters alphabets s) refl e
-  where
-    go : (o : Option Text) → parseText allLetters alphabets s ≡ o → Found v f ≡ textAnswer o → TextTold s v f
-    go none q k = absurd (let z : _≡_ {A = ℕ} 0 1 = cc in omega arith)
-    go (some t) q k = let j : f ≡ faults (numbersAt 0 t) = cc in record { tree = t; parsed = q; means = cc; wrong = ap (λ (g : Faults). g .unfit) j }
+text-told s v f e =
+    by-answer textAnswer (parseText allLetters alphabets s) e (λ q z. absurd (let y : _≡_ {A = ℕ} 0 1 = cc in omega arith))
+    (λ t q z. let j : f ≡ faults (numbersAt 0 t) = cc in record { tree = t; parsed = q; means = cc; wrong = ap (λ (g : Faults). g .unfit) j })
 
 module _ (s : List ℕ) (short : length s ≤ limit) where
   pub reads-nothing : Nothing ≡ textAnswer (parseText allLetters alphabets s) → Reads allLetters s (refused 2 0)
   unfolding textAnswer
-  reads-nothing e = go (parseText allLetters alphabets s) refl e
-    where
-      go : (o : Option Text) → parseText allLetters alphabets s ≡ o → Nothing ≡ textAnswer o → Reads allLetters s (refused 2 0)
-      go none q k = notInGrammar short (λ x t. none-some (sym q ∙ rw (t .text) at (complete-text allLetters alphabets x (t .wf))))
-      go (some x) q k = absurd (let z : _≡_ {A = ℕ} 0 1 = cc in omega arith)
+  reads-nothing e =
+      by-answer textAnswer (parseText allLetters alphabets s) e
+      (λ q z. notInGrammar short (λ x t. none-some (sym q ∙ rw (t .text) at (complete-text allLetters alphabets x (t .wf)))))
+      (λ x q z. absurd (let y : _≡_ {A = ℕ} 0 1 = cc in omega arith))
 
   module _ {v : HgvsVariant} {f : Faults} (x : TextTold s v f) where
     pub reads-unfit : (place : ℕ) → f .unfit ≡ At place → Reads allLetters s (refused 3 place)
