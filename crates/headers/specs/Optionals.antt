@@ -1,12 +1,12 @@
 -- A part that may be missing: a word with one or more bytes of a kind behind it, by longest match.
-use Prim.Native.Nat.{ℕ, _≤_}
+use Prim.Native.Nat.{ℕ}
 use mathlib.Core.Path.{_≡_, refl, ap, _∙_}
 use mathlib.Core.List.{List, _++_, append-assoc}
 use mathlib.Core.Option.{Option, none, some}
 use mathlib.Core.Bool.{Bool, true, false, cond, _&&_}
 use native.Mathlib.Omega.{arith}
 use lib.Dec.{leb}
-use lib.ListN.{length, drop, length-append}
+use lib.ListN.{length, drop}
 use lib.Seq.{drop-append-seam}
 use borrow.Author.Tests.{leb-true, le-leb}
 use Rattle.texts.specs.Tests.{and-true}
@@ -14,14 +14,6 @@ use Rattle.texts.specs.Words.{starts, starts-append, starts-split}
 use Rattle.texts.specs.Runs.{Some, run, front, behind, run-is, front-is, front-behind, front-length, front-every}
 use Rattle.grammar.specs.Optional.{printOptional, WfOptional}
 use Rattle.lang.specs.Lang.{Front}
-
--- what stands at the front is no longer than the text, and together with what is behind it is the text
-module _ {Tree : Type 0} {print : Tree → List ℕ} {Wf : Tree → Type 0} {s : List ℕ} {t : Tree} (f : Front print Wf s t) where
-  pub front-within : length (print t) ≤ length s
-  front-within = omega (arith, ap length (f .text), length-append (print t) (f .after))
-
-  pub rejoined : print t ++ drop (length (print t)) s ≡ s
-  rejoined = rw (← f .text, drop-append-seam (print t) (f .after))
 
 module _ (word : List ℕ) (p : ℕ → Bool) where
   unfoldable pub isThere : List ℕ → Bool

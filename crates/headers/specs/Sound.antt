@@ -17,8 +17,8 @@ use Rattle.texts.specs.Runs.{Some, run, front, behind, run-is, front-is, behind
 use Rattle.alphabet.specs.Letters.{letter, digit, alphanumeric}
 use Rattle.grammar.specs.Optional.{printOptional, WfOptional}
 use Rattle.grammar.specs.Header.{Accession, Accession.accession, printAccession, WfAccession, printGene, Header, Header.header, printHeader, WfHeader}
-use Rattle.lang.specs.Lang.{Front, Lang}
-use Rattle.headers.specs.Optionals.{parseOptional, rejoined, optional-front, optional-none, optional-there, optional-is}
+use Rattle.lang.specs.Lang.{Front, rejoined, Lang}
+use Rattle.headers.specs.Optionals.{parseOptional, optional-front, optional-none, optional-there, optional-is}
 use Rattle.headers.specs.Parse.{suffixOf, named, parseAccession, closed, parseGene, headed, parseHeader}
 
 -- ---- the accession

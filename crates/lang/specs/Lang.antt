@@ -5,13 +5,21 @@ use mathlib.Core.List.{List, [], _∷_, _++_, append-nil}
 use mathlib.Core.Option.{Option, none, some}
 use native.Mathlib.Omega.{arith}
 use lib.ListN.{length, drop, length-append}
-use lib.Seq.{drop-at}
+use lib.Seq.{drop-at, drop-append-seam}
 
 -- t's text stands at the front of s
 pub record Front {Tree : Type 0} (print : Tree → List ℕ) (Wf : Tree → Type 0) (s : List ℕ) (t : Tree) : Type 0 where
   pub wf : Wf t
   pub after : List ℕ
   pub text : print t ++ after ≡ s
+
+-- it is no longer than s, and together with what is behind it is s
+module _ {Tree : Type 0} {print : Tree → List ℕ} {Wf : Tree → Type 0} {s : List ℕ} {t : Tree} (f : Front print Wf s t) where
+  pub front-within : length (print t) ≤ length s
+  front-within = omega (arith, ap length (f .text), length-append (print t) (f .after))
+
+  pub rejoined : print t ++ drop (length (print t)) s ≡ s
+  rejoined = rw (← f .text, drop-append-seam (print t) (f .after))
 
 pub record Lang : Type 1 where
   pub Tree : Type 0
@@ -31,7 +39,7 @@ module _ (L : Lang) where
       ap (drop (length (L .print t))) (sym (f .text)) ∙ drop-at (L .print t) (f .after) (length (L .print t)) refl
 
   pub within : (s : List ℕ) (t : L .Tree) → L .parse s ≡ some t → length (L .print t) ≤ length s
-  within s t e = let f = L .sound s t e in omega (arith, ap length (f .text), length-append (L .print t) (f .after))
+  within s t e = front-within (L .sound s t e)
 
   -- a text that is a tree's alone
   module _ (end : L .Stop []) where

@@ -21,8 +21,8 @@ use Rattle.record.specs.declared.variant.Kind.{Kind}
 use Rattle.grammar.specs.Optional.{printOptional, WfOptional}
 use Rattle.grammar.specs.Header.{Accession, Accession.accession, printAccession, printGene, printKind}
 use Rattle.grammar.specs.Records.{span, partOf}
-use Rattle.lang.specs.Lang.{within}
-use Rattle.headers.specs.Optionals.{isThere, parseOptional, front-within, optional-front, optional-none}
+use Rattle.lang.specs.Lang.{front-within, within}
+use Rattle.headers.specs.Optionals.{isThere, parseOptional, optional-front, optional-none}
 use Rattle.headers.specs.Parse.{suffixOf, versionOf, parseAccession, closed, parseGene, headed, parseHeader}
 use Rattle.headers.specs.Sound.{accessionLang, gene-front}
 use Rattle.headers.specs.Kinds.{firstKind, parseKind}

@@ -30,7 +30,7 @@ use Rattle.record.specs.declared.edits.ProteinEdit.the-variants.{Fs, Ext}
 use Rattle.grammar.specs.Optional.{printOptional}
 use Rattle.grammar.specs.ProteinEdits.{Terminal, Terminal.ter, Terminal.x, Terminal.star, Stop, Stop.stop, ExtEnd, ExtEnd.earlier, printTerminal, printFsEnd, printExtEnd}
 use Rattle.grammar.specs.Records.{span, partOf}
-use Rattle.lang.specs.Lang.{Front}
+use Rattle.lang.specs.Lang.{front-within}
 use Rattle.scan.specs.Faults.{faults, none as noFault, unfitUnless, faults-nil}
 use Rattle.scan.specs.Reading.{number-run, number-len, number-le, number-value, number-faults}
 use Rattle.scan.specs.declared.Faults.{Faults}
@@ -42,9 +42,6 @@ use Rattle.read_protein_edit.specs.declared.ProteinEditRead.the-variants
 use Rattle.read_protein_edit.specs.declared.LengthRead.{LengthRead}
 use Rattle.read_protein_edit.specs.declared.StopRead.{StopRead}
 use Rattle.read_protein_edit.specs.Answer.{terminalLen, lengthRead, stopRead, residuePart, fsRead, extRead, earlierRead}
-
-front-le : {Tree : Type 0} (print : Tree → List ℕ) (Wf : Tree → Type 0) (s : List ℕ) (t : Tree) → Front print Wf s t → length (print t) ≤ length s
-front-le print Wf s t f = omega (arith, ap length (f .text), length-append (print t) (f .after))
 
 -- ---- terminals
 module _ (s : List ℕ) where
@@ -95,7 +92,7 @@ module _ (at : ℕ) (s : List ℕ) (f : Faults) where
 
 pub length-le : (at : ℕ) (s : List ℕ) → lengthRead at (lengthAt s) .len ≤ length s
 unfolding lengthRead
-length-le at s = front-le _ _ s (lengthAt s) (length-sound s)
+length-le at s = front-within (length-sound s)
 
 -- ---- a terminal of t bytes, and the length behind it
 terminal-some : (t : Terminal) → terminalLen (some t) ≡ 0 → ⊥
@@ -127,7 +124,7 @@ module _ (at : ℕ) (s : List ℕ) (t : ℕ) (et : t ≡ terminalLen (terminalAt
 
 pub stop-le : (at : ℕ) (s : List ℕ) → stopRead at (stopAt s) .len ≤ length s
 unfolding stopRead
-stop-le at s = go (stopAt s) (front-le _ _ s (stopAt s) (fs-sound s))
+stop-le at s = go (stopAt s) (front-within (fs-sound s))
   where
     go : (o : Option Stop) → length (printFsEnd o) ≤ length s → stopRead at o .len ≤ length s
     go none h = omega arith
