@@ -10,7 +10,7 @@ use borrow.Author.Tests.{eqb-true}
 use Rattle.texts.specs.Ascii.{ascii}
 use Rattle.texts.specs.Tests.{and-true, never, clash}
 use Rattle.texts.specs.Runs.{every, run, run-first}
-use Rattle.texts.specs.Words.{starts}
+use Rattle.texts.specs.Words.{starts, starts-other}
 use Rattle.alphabet.specs.Letters.{among, digit, nucleotide, residue}
 use Rattle.alphabet.specs.Apart.{none-among, nucleotide-no-digit, residue-no-digit}
 use Rattle.residue.specs.Laws.{residue-first, residue-some}
@@ -23,7 +23,7 @@ use Rattle.lang.specs.Lang.{Lang}
 use Rattle.lang.specs.IntervalLang.{interval, StopInterval}
 use Rattle.lang.specs.MuLang.{mu, Brackets}
 use Rattle.location.specs.Parse.{parseOffset, parsePosition}
-use Rattle.location.specs.Sound.{Stop, starts-digits, completePosition, soundPosition}
+use Rattle.location.specs.Sound.{Stop, completePosition, soundPosition}
 
 abbrev pub posLang : Kind → Lang
 posLang k = record { Tree = Position k; print = printPosition k; Wf = WfPosition k; Stop = Stop; parse = parsePosition k; complete = completePosition k; sound = soundPosition k }
@@ -79,14 +79,14 @@ module _ (k : Kind) where
 module _ (r : List ℕ) where
   based-open : (t : Based) → WfBased t → starts (ascii "(") (printBased t ++ r) ≡ false
   unfolding starts digit
-  based-open (based bare ds o) w = rw (append-assoc ds (printOffset o) r) (starts-digits (code "(") ds (printOffset o ++ r) refl (w .0))
+  based-open (based bare ds o) w = rw (append-assoc ds (printOffset o) r) (starts-other digit (code "(") [] ds (printOffset o ++ r) refl (w .0))
   based-open (based plus ds o) w = refl
   based-open (based minus ds o) w = refl
   based-open (based star ds o) w = refl
 
   genomic-open : (t : Genomic) → WfGenomic t → starts (ascii "(") (printGenomic t ++ r) ≡ false
   unfolding starts digit
-  genomic-open (known ds) w = starts-digits (code "(") ds r refl w
+  genomic-open (known ds) w = starts-other digit (code "(") [] ds r refl w
   genomic-open unknown w = refl
 
   residual-open : (t : Residual) → WfResidual t → starts (ascii "(") (printResidual t ++ r) ≡ false

@@ -2,18 +2,18 @@
 use Prim.Native.Nat.{ℕ}
 use Prim.Native.Char.{code}
 use mathlib.Core.Path.{_≡_, refl, sym, ap, _∙_}
-use mathlib.Core.List.{List, [], _∷_, _++_, append-assoc}
+use mathlib.Core.List.{List, [], _++_, append-assoc}
 use mathlib.Core.Option.{Option, none, some}
-use mathlib.Core.Bool.{Bool, true, false, cond, _&&_}
+use mathlib.Core.Bool.{Bool, true, false, cond}
 use native.Mathlib.Omega.{arith}
 use lib.Dec.{eqb}
 use lib.ListN.{length, take, drop, take-append-drop}
 use lib.Seq.{take-append-seam, drop-append-seam}
 use borrow.Author.Tests.{eqb-true, eqb-false, eq-eqb, ne-eqb}
 use Rattle.texts.specs.Ascii.{ascii}
-use Rattle.texts.specs.Tests.{and-true, none-some, cond-some, clash, never}
-use Rattle.texts.specs.Runs.{every, run, front, behind, run-is, front-is, behind-is, front-some, front-behind}
-use Rattle.texts.specs.Words.{starts, starts-append, starts-split}
+use Rattle.texts.specs.Tests.{none-some, cond-some, clash}
+use Rattle.texts.specs.Runs.{run, front, behind, run-is, front-is, behind-is, front-some, front-behind}
+use Rattle.texts.specs.Words.{starts, starts-append, starts-split, starts-other}
 use Rattle.alphabet.specs.Letters.{digit}
 use Rattle.residue.specs.Residues.{isResidue}
 use Rattle.residue.specs.Reading.{residueLen}
@@ -51,18 +51,10 @@ module _ {A : Type 0} (other : A) (made : List ℕ → A) where
       go true e = f (sym (digits-none s (eqb-true _ _ e)) ∙ h)
       go false e = g (front-some digit s (eqb-false _ _ e)) (sym (digits-some s (eqb-false _ _ e)) ∙ h)
 
--- digits start with no byte but a digit
-pub starts-digits : (b : ℕ) (ds x : List ℕ) → digit b ≡ false → Digits ds → starts (b ∷ []) (ds ++ x) ≡ false
-unfolding starts every
-starts-digits b [] x n w = absurd (omega (arith, w .some))
-starts-digits b (d ∷ ds) x n w =
-    let h = and-true (digit d) (every digit ds) (w .all) .0 in
-    never (eqb b d && true) (λ q. clash h (rw (eqb-true b d (and-true (eqb b d) true q .0)) at n))
-
 -- ---- marks
 mark-is : (m : Mark) (ds x : List ℕ) → Digits ds → parseMark (printMark m ++ (ds ++ x)) ≡ m
 unfolding parseMark starts digit
-mark-is bare ds x w = rw (starts-digits (code "+") ds x refl w, starts-digits (code "-") ds x refl w, starts-digits (code "*") ds x refl w)
+mark-is bare ds x w = rw (starts-other digit (code "+") [] ds x refl w, starts-other digit (code "-") [] ds x refl w, starts-other digit (code "*") [] ds x refl w)
 mark-is plus ds x w = refl
 mark-is minus ds x w = refl
 mark-is star ds x w = refl
@@ -144,7 +136,7 @@ sound-based s t h = digits-cases none made y (some t) h (λ e. absurd (none-some
 -- without `*`
 unstarred-start : (t : Based) (r : List ℕ) → WfUnstarred t → starts (ascii "*") (printBased t ++ r) ≡ false
 unfolding starts digit
-unstarred-start (based bare ds o) r w = rw (append-assoc ds (printOffset o) r) (starts-digits (code "*") ds (printOffset o ++ r) refl (w .1 .0))
+unstarred-start (based bare ds o) r w = rw (append-assoc ds (printOffset o) r) (starts-other digit (code "*") [] ds (printOffset o ++ r) refl (w .1 .0))
 unstarred-start (based plus ds o) r w = refl
 unstarred-start (based minus ds o) r w = refl
 unstarred-start (based star ds o) r w = absurd (w .0)

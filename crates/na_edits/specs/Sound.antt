@@ -12,7 +12,7 @@ use borrow.Author.Tests.{eqb-true, ne-eqb, not-true}
 use Rattle.texts.specs.Ascii.{ascii}
 use Rattle.texts.specs.Tests.{and-true, never, clash, none-some}
 use Rattle.texts.specs.Runs.{every, Some, run, front, behind, run-nil, run-first, run-other, front-is, behind-is, front-every, front-behind}
-use Rattle.texts.specs.Words.{starts, starts-split}
+use Rattle.texts.specs.Words.{starts, starts-split, starts-other}
 use Rattle.alphabet.specs.Letters.{letter, digit}
 use Rattle.grammar.specs.Positions.{Digits}
 use Rattle.grammar.specs.NucleotideEdits.{NaEdit, NaEdit.equal, NaEdit.swap, NaEdit.delIns, NaEdit.delNumIns, NaEdit.delNum, NaEdit.del, NaEdit.ins, NaEdit.dup, NaEdit.invNum, NaEdit.inv, printNaEdit, WfNaEdit}
@@ -94,11 +94,8 @@ module _ (na : ℕ → Bool) (al : Alphabet na) where
   ins-digit x = run-first digit (code "i") (ascii "ns" ++ x) refl
 
   digits-word : (ds y : List ℕ) → Digits ds → starts (ascii "ins") (ds ++ y) ≡ false
-  unfolding starts every digit
-  digits-word [] y w = absurd (omega (arith, w .some))
-  digits-word (d ∷ ds) y w =
-      let h = and-true (digit d) (every digit ds) (w .all) .0 in
-      rw (ne-eqb (code "i") d (λ e. clash (rw (← e) at h) refl))
+  unfolding digit
+  digits-word ds y w = starts-other digit (code "i") (ascii "ns") ds y refl w
 
   -- behind `del`: letters, or digits, and y behind them
   del-letters : (a y : List ℕ) → every na a ≡ true → run na y ≡ 0 → run digit y ≡ 0 → afterDel na (a ++ y) ≡ onSome (del a) (delIns a) (inserted na y)

@@ -12,10 +12,9 @@ use lib.Seq.{take-append-seam, drop-append-seam}
 use borrow.Author.Tests.{eqb-true, ne-eqb}
 use Rattle.texts.specs.Ascii.{ascii}
 use Rattle.texts.specs.Tests.{and-true, never, clash}
-use Rattle.texts.specs.Runs.{run, run-is, run-first, run-other, front-is}
-use Rattle.texts.specs.Words.{starts, starts-append, same}
+use Rattle.texts.specs.Runs.{run, run-is, run-first, front-is}
+use Rattle.texts.specs.Words.{starts, starts-append, same, starts-none, starts-other}
 use Rattle.alphabet.specs.Letters.{digit, residue}
-use Rattle.alphabet.specs.Apart.{digit-bounds}
 use Rattle.residue.specs.Rows.{rows}
 use Rattle.residue.specs.Residues.{oneOf, isThree, isOne, isResidue, isResidues}
 use Rattle.residue.specs.Reading.{residueLen, continues}
@@ -23,7 +22,7 @@ use Rattle.residue.specs.Laws.{residue-complete, residue-some, residue-first, r
 use Rattle.grammar.specs.Optional.{printOptional, WfOptional}
 use Rattle.grammar.specs.ProteinEdits.{Residue, Terminal, Terminal.ter, Terminal.x, Terminal.star, Length, Length.counted, Length.unknown, Length.unsaid, Stop, Stop.stop, ExtEnd, ExtEnd.nothing, ExtEnd.later, ExtEnd.earlier, ProteinEdit, ProteinEdit.subst, ProteinEdit.substUnknown, ProteinEdit.equal, ProteinEdit.del, ProteinEdit.dup, ProteinEdit.ins, ProteinEdit.delIns, ProteinEdit.fs, ProteinEdit.ext, printTerminal, printLength, printStop, printFsEnd, printExtEnd, printProteinEdit, WfLength, WfStop, WfFsEnd, WfExtEnd, WfProteinEdit}
 use Rattle.protein_edits.specs.Parse.{bytesOf, terminalAt, lengthAt, stopAt, earlierWith, earlierAt, extEndAt, residuesBehind, insertedAt, wordedAt, parseWith, parse}
-use Rattle.protein_edits.specs.Follow.{Stops, no-start, no-residue, no-digit, no-word, no-continues, goesOn}
+use Rattle.protein_edits.specs.Follow.{Stops, no-residue, no-digit, no-word, no-continues, goesOn}
 
 -- ---- n bytes at the front
 pub bytes-some : (n : ℕ) (s : List ℕ) → (n ≡ 0 → ⊥) → bytesOf n s ≡ some (take n s)
@@ -58,7 +57,7 @@ terminal-residue star = refl
 
 no-terminal : (y : List ℕ) → run residue y ≡ 0 → terminalAt y ≡ none
 unfolding terminalAt residue
-no-terminal y e = rw (no-start residue (code "T") (ascii "er") y refl e, no-start residue (code "X") [] y refl e, no-start residue (code "*") [] y refl e)
+no-terminal y e = rw (starts-none residue (code "T") (ascii "er") y refl e, starts-none residue (code "X") [] y refl e, starts-none residue (code "*") [] y refl e)
 
 length-complete : (n : Length) (r : List ℕ) → WfLength n → Stops r → lengthAt (printLength n ++ r) ≡ n
 unfolding lengthAt starts run digit goesOn residue
@@ -87,7 +86,7 @@ length-continues unsaid r w st = no-continues r st
 
 length-plain : (n : Length) (r : List ℕ) → WfLength n → Stops r → starts (ascii "-") (printLength n ++ r) ≡ false
 unfolding starts goesOn residue digit
-length-plain (counted ds) r w st = no-start (λ b. eqb (code "-") b) (code "-") [] (ds ++ r) refl (run-other digit (λ b. eqb (code "-") b) ds r (λ b h. never (eqb (code "-") b) (λ q. omega (arith, eqb-true (code "-") b q, digit-bounds b h))) w)
+length-plain (counted ds) r w st = starts-other digit (code "-") [] ds r refl w
 length-plain unknown r w st = refl
 length-plain unsaid r w st = no-word (code "-") [] r refl st
 

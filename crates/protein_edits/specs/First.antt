@@ -10,14 +10,13 @@ use lib.Dec.{eqb}
 use Rattle.texts.specs.Ascii.{ascii}
 use Rattle.texts.specs.Tests.{right-or}
 use Rattle.texts.specs.Runs.{every, run, run-first}
-use Rattle.texts.specs.Words.{starts, StartsWith, starts-with}
+use Rattle.texts.specs.Words.{starts, StartsWith, starts-with, starts-none}
 use Rattle.alphabet.specs.Letters.{among, residue}
 use Rattle.alphabet.specs.Apart.{among-every, among-none}
 use Rattle.residue.specs.Residues.{isResidue}
 use Rattle.residue.specs.Laws.{residue-first, residue-some}
 use Rattle.grammar.specs.Shapes.{Mu, Mu.certain, Mu.uncertain, printMu, WfMu}
 use Rattle.grammar.specs.ProteinEdits.{ProteinEdit, ProteinEdit.subst, ProteinEdit.substUnknown, ProteinEdit.equal, ProteinEdit.del, ProteinEdit.dup, ProteinEdit.ins, ProteinEdit.delIns, ProteinEdit.fs, ProteinEdit.ext, printFsEnd, printExtEnd, printProteinEdit, WfProteinEdit}
-use Rattle.protein_edits.specs.Follow.{no-start}
 
 -- residues, `?`, `=`, and what `del`, `dup`, `ins`, `fs` and `ext` start with
 abbrev pub firsts : List ℕ
@@ -58,4 +57,4 @@ module _ (bytes s : List ℕ) (h : Head bytes s) where
   head-run p e = rw (h .text) (run-first p (h .byte) (h .rest) (among-none p (h .byte) bytes e (h .holds)))
 
   pub head-word : (c : ℕ) (w : List ℕ) → every (λ b. not (eqb c b)) bytes ≡ true → eqb c c ≡ true → starts (c ∷ w) s ≡ false
-  head-word c w e k = no-start (eqb c) c w s k (head-run (eqb c) e)
+  head-word c w e k = starts-none (eqb c) c w s k (head-run (eqb c) e)

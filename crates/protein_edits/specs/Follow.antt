@@ -3,13 +3,11 @@ use Prim.Native.Nat.{ℕ}
 use Prim.Native.Char.{code}
 use mathlib.Core.Path.{_≡_, refl}
 use mathlib.Core.List.{List, [], _∷_, _++_}
-use mathlib.Core.Bool.{Bool, true, false, _&&_, _||_}
-use lib.Dec.{eqb}
-use borrow.Author.Tests.{eqb-true}
+use mathlib.Core.Bool.{Bool, true, false, _||_}
 use Rattle.texts.specs.Ascii.{ascii}
-use Rattle.texts.specs.Tests.{and-true, left-or, right-or, never, clash}
+use Rattle.texts.specs.Tests.{left-or, right-or, never, clash}
 use Rattle.texts.specs.Runs.{every, run, run-nil, run-first, run-head, run-narrower}
-use Rattle.texts.specs.Words.{starts}
+use Rattle.texts.specs.Words.{starts, starts-none}
 use Rattle.alphabet.specs.Letters.{among, digit, residue}
 use Rattle.alphabet.specs.Apart.{among-every}
 use Rattle.residue.specs.Reading.{continues}
@@ -42,15 +40,8 @@ module _ (r : List ℕ) (st : Stops r) where
   unfolding goesOn
   no-digit = run-narrower digit goesOn (λ b h. right-or (residue b) (left-or (among b (ascii "aefhilrsy?-")) h)) r (st .ends)
 
--- a word does not start a text that starts with no byte of the word's kind
-pub no-start : (p : ℕ → Bool) (c : ℕ) (w r : List ℕ) → p c ≡ true → run p r ≡ 0 → starts (c ∷ w) r ≡ false
-unfolding starts
-no-start p c w [] h e = refl
-no-start p c w (b ∷ r) h e =
-    never (eqb c b && starts w r) (λ q. clash (rw (eqb-true c b (and-true (eqb c b) (starts w r) q .0)) at h) (run-head p b r e))
-
 pub no-word : (c : ℕ) (w r : List ℕ) → goesOn c ≡ true → Stops r → starts (c ∷ w) r ≡ false
-no-word c w r h st = no-start goesOn c w r h (st .ends)
+no-word c w r h st = starts-none goesOn c w r h (st .ends)
 
 pub no-continues : (r : List ℕ) → Stops r → continues r ≡ false
 unfolding goesOn residue digit every

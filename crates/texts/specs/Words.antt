@@ -2,14 +2,15 @@
 use Prim.Native.Nat.{ℕ, zero, suc, _+_, _≤_, _<_}
 use mathlib.Core.Path.{_≡_, refl, sym, ap, _∙_}
 use mathlib.Core.List.{List, [], _∷_, _++_}
-use mathlib.Core.Bool.{Bool, true, false, _&&_}
+use mathlib.Core.Bool.{Bool, true, false, not, _&&_}
 use native.Mathlib.Omega.{arith}
 use native.Mathlib.Numerals.{add-one}
 use lib.ListN.{length, getD, take, drop, drop-of-length-le}
 use lib.Seq.{drop-cons}
 use lib.Dec.{eqb}
 use borrow.Author.Tests.{eq-eqb, ne-eqb, eqb-true}
-use Rattle.texts.specs.Tests.{and-true, clash}
+use Rattle.texts.specs.Tests.{and-true, never, clash}
+use Rattle.texts.specs.Runs.{Some, run, run-head, run-other}
 
 -- w is the first bytes of s
 unfoldable pub starts : List ℕ → List ℕ → Bool
@@ -111,3 +112,15 @@ same-lengths a b n = go (same a b) refl
     go : (t : Bool) → same a b ≡ t → same a b ≡ false
     go false e = e
     go true e = absurd (n (ap length (same-true a b e)))
+
+-- ---- a word that a text does not begin with
+-- the word starts with a byte of a kind, and the text with none
+pub starts-none : (p : ℕ → Bool) (c : ℕ) (w r : List ℕ) → p c ≡ true → run p r ≡ 0 → starts (c ∷ w) r ≡ false
+unfolding starts
+starts-none p c w [] h e = refl
+starts-none p c w (b ∷ r) h e =
+    never (eqb c b && starts w r) (λ q. clash (rw (eqb-true c b (and-true (eqb c b) (starts w r) q .0)) at h) (run-head p b r e))
+
+-- the text starts with bytes of a kind, and the word with none
+pub starts-other : (p : ℕ → Bool) (c : ℕ) (w a r : List ℕ) → p c ≡ false → Some p a → starts (c ∷ w) (a ++ r) ≡ false
+starts-other p c w a r n h = starts-none (λ b. not (p b)) c w (a ++ r) (rw n) (run-other p (λ b. not (p b)) a r (λ b e. rw e) h)
