@@ -1,15 +1,14 @@
 -- A text is one as a whole exactly where what was counted at its front is as long as it.
 use Prim.Native.Nat.{ℕ}
-use mathlib.Core.Path.{_≡_, refl, sym, _∙_}
+use mathlib.Core.Path.{_≡_, refl, sym}
 use mathlib.Core.List.{List, [], _∷_}
 use mathlib.Core.Option.{Option, none, some}
 use mathlib.Core.Bool.{Bool, true, false, cond}
 use native.Mathlib.Omega.{arith}
 use lib.Dec.{eqb}
 use lib.ListN.{length}
-use borrow.Author.Tests.{eq-eqb, ne-eqb, le-leb}
-use Rattle.texts.specs.Tests.{clash}
-use Rattle.texts.specs.Runs.{run, every, run-whole, whole-run}
+use borrow.Author.Tests.{ne-eqb, le-leb}
+use Rattle.texts.specs.Runs.{run, run-every}
 use Rattle.alphabet.specs.Letters.{alphanumeric}
 use Rattle.alphabet.specs.Classes.{member}
 use Rattle.alphabet.specs.declared.Class.the-variants.{Alphanumeric}
@@ -36,11 +35,7 @@ module _ (s : List ℕ) where
 
   pub name-whole : (length s ≡ 0 → ⊥) → {n : ℕ} → n ≡ run (member Alphanumeric) s → eqb n (length s) ≡ isName s
   unfolding member
-  name-whole h e = rw (e, le-leb 1 (length s) (omega (arith, h))) (go (every alphanumeric s) refl)
-    where
-      go : (t : Bool) → every alphanumeric s ≡ t → eqb (run alphanumeric s) (length s) ≡ every alphanumeric s
-      go true q = rw q (eq-eqb (run alphanumeric s) (length s) (whole-run alphanumeric s q))
-      go false q = ne-eqb (run alphanumeric s) (length s) (λ l. clash (run-whole alphanumeric s l) q) ∙ sym q
+  name-whole h e = rw (e, le-leb 1 (length s) (omega (arith, h))) (run-every alphanumeric s)
 
 -- an empty text is neither
 pub accession-empty : (s : List ℕ) → length s ≡ 0 → false ≡ isSome (whole accessionLang s)

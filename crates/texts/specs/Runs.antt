@@ -6,8 +6,10 @@ use mathlib.Core.Bool.{Bool, true, false, cond, _&&_}
 use native.Mathlib.Omega.{arith}
 use native.Mathlib.Nat.{add-zero}
 use native.Mathlib.Numerals.{add-one}
+use lib.Dec.{eqb}
 use lib.ListN.{length, getD, take, drop, take-append-drop, drop-of-length-le}
 use lib.Seq.{drop-cons, length-take-le, take-append-seam, drop-append-seam, take-length}
+use borrow.Author.Tests.{eq-eqb, ne-eqb}
 use Rattle.texts.specs.Tests.{and-true, true-and, never, clash}
 
 -- every byte passes
@@ -159,9 +161,16 @@ run-other p q (b ∷ a) r apart h = run-first q b (a ++ r) (apart b (and-true (p
 
 -- a whole text passes exactly where its run is as long as the text
 module _ (p : ℕ → Bool) (s : List ℕ) where
-  pub run-whole : run p s ≡ length s → every p s ≡ true
+  run-whole : run p s ≡ length s → every p s ≡ true
   unfolding front
   run-whole e = let f : take (run p s) s ≡ s = rw e (take-length s) in rw f at (front-every p s)
 
-  pub whole-run : every p s ≡ true → run p s ≡ length s
+  whole-run : every p s ≡ true → run p s ≡ length s
   whole-run e = rw append-nil at (run-is p s [] e (run-nil p))
+
+  pub run-every : eqb (run p s) (length s) ≡ every p s
+  run-every = go (every p s) refl
+    where
+      go : (t : Bool) → every p s ≡ t → eqb (run p s) (length s) ≡ every p s
+      go true e = eq-eqb (run p s) (length s) (whole-run e) ∙ sym e
+      go false e = ne-eqb (run p s) (length s) (λ h. clash (run-whole h) e) ∙ sym e

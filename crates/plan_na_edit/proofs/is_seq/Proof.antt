@@ -1,6 +1,6 @@
 use Rattle.alphabet.specs.Letters.{nucleotide}
 use Rattle.alphabet.specs.Classes.{member}
-use Rattle.plan_na_edit.proofs.Laws.{run-all}
+use Rattle.texts.specs.Runs.{run-every}
 use borrow.Author.Needs.{needs}
 use Rattle.plan_na_edit.proofs.is_seq.Statement.{statement}
 use Rattle.plan_na_edit.proofs.is_seq.Tie as tie
@@ -13,7 +13,7 @@ run-of-requires c κs = search needs
 
 returns : tie.Need-returns
 unfolding member
-returns c = rw (c .run-of .ensures, c .before .part-of .ensures .bytes) (run-all nucleotide _)
+returns c = rw (c .run-of .ensures, c .before .part-of .ensures .bytes) (run-every nucleotide _)
 
 pub is-seq-spec : {M : Type 1} → statement M
 is-seq-spec = tie.close (tie.spec part-of-requires run-of-requires returns)
