@@ -6,9 +6,8 @@ use mathlib.Core.Option.{Option, none, some}
 use mathlib.Core.Bool.{true, false}
 use native.Mathlib.Omega.{arith}
 use lib.ListN.{length, take, drop, length-append, length-drop}
-use lib.Seq.{drop-drop}
 use Rattle.texts.specs.Ascii.{ascii}
-use Rattle.texts.specs.Slices.{tail-part}
+use Rattle.texts.specs.Slices.{tail-part, tail-at, tail-beyond}
 use Rattle.texts.specs.Words.{starts, starts-length}
 use Rattle.record.specs.declared.variant.Kind.{Kind}
 use Rattle.grammar.specs.Positions as Tree
@@ -62,7 +61,7 @@ module _ {k : Kind} {at : ℕ} {s : List ℕ} {p : Position} {n : ℕ} {f : Faul
   start-le = omega (arith, a .long, within (posLang k) s (a .tree) (a .parsed))
 
   rest-is : take (length s - n) (drop n s) ≡ drop (length (printPosition k (a .tree))) s
-  rest-is = tail-part n s ∙ ap (λ (i : ℕ). drop i s) (a .long)
+  rest-is = tail-at s (a .long)
 
   pub interval-one : starts (ascii "_") (take (length s - n) (drop n s)) ≡ false → Found (record { certain = true; start = p; end = p }) n f ≡ intervalAnswer k at (endsLang k .parse s)
   interval-one j = cc (one-is k at s (a .tree) (a .parsed) (sym (ap (starts (ascii "_")) rest-is) ∙ j))
@@ -75,7 +74,7 @@ module _ {k : Kind} {at : ℕ} {s : List ℕ} {p : Position} {n : ℕ} {f : Faul
     join-le = omega (arith, starts-length (ascii "_") (drop n s) (rw (tail-part n s) at j), length-drop n s, start-le)
 
     next-is : take (length s - (n + 1)) (drop (n + 1) s) ≡ drop 1 (drop (length (printPosition k (a .tree))) s)
-    next-is = tail-part (n + 1) s ∙ sym (drop-drop 1 n s) ∙ ap (λ (i : ℕ). drop 1 (drop i s)) (a .long)
+    next-is = tail-beyond 1 s (a .long)
 
     pub interval-half : PR.Nothing ≡ positionAnswer k (at + (n + 1)) (parsePosition k (take (length s - (n + 1)) (drop (n + 1) s))) → Nothing ≡ intervalAnswer k at (endsLang k .parse s)
     interval-half h = half-is k at s (a .tree) (a .parsed) joined (ap (parsePosition k) (sym next-is) ∙ position-unread k (at + (n + 1)) _ h)

@@ -9,7 +9,7 @@ use lib.Dec.{eqb}
 use lib.ListN.{length, take, drop, length-append, length-drop}
 use borrow.Author.Tests.{eq-eqb, ne-eqb}
 use Rattle.texts.specs.Tests.{none-some}
-use Rattle.texts.specs.Slices.{tail-part}
+use Rattle.texts.specs.Slices.{tail-part, tail-at}
 use Rattle.alphabet.specs.Letters.{nucleotide}
 use Rattle.record.specs.declared.variant.Kind.{Kind}
 use Rattle.record.specs.declared.variant.Kind.the-variants.{Cds, Genome, Mt, Tx, Prot, Rna}
@@ -66,7 +66,7 @@ module _ (k : Kind) (at : ℕ) (s : List ℕ) where
   module _ {l : Raw.Location} {n : ℕ} {f : Faults} (x : LocationTold k at s l n f) where
     -- what is behind the location
     rest : take (length s - n) (drop n s) ≡ drop (length (printLocation k (x .tree))) s
-    rest = tail-part n s ∙ ap (λ (i : ℕ). drop i s) (x .long)
+    rest = tail-at s (x .long)
 
     pub no-edit : muNaEditLang nucleotide nucleotides .parse (take (length s - n) (drop n s)) ≡ none → Nothing ≡ answer
     unfolding naAnswer whole parseBoth

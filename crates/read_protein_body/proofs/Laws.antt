@@ -7,10 +7,9 @@ use mathlib.Core.Bool.{Bool, true, false, cond}
 use native.Mathlib.Omega.{arith}
 use lib.Dec.{eqb}
 use lib.ListN.{length, take, drop, length-append, length-drop}
-use lib.Seq.{drop-drop}
 use borrow.Author.Tests.{eq-eqb, ne-eqb}
 use Rattle.texts.specs.Ascii.{ascii}
-use Rattle.texts.specs.Slices.{tail-part}
+use Rattle.texts.specs.Slices.{tail-part, tail-at, tail-beyond}
 use Rattle.texts.specs.Words.{starts, starts-length, same, same-starts, same-lengths}
 use Rattle.record.specs.declared.variant.Kind.the-variants.{Prot}
 use Rattle.record.specs.declared.edits.MuProteinEdit.{MuProteinEdit}
@@ -97,7 +96,7 @@ module _ (at : ℕ) (s : List ℕ) where
       edit-le = rw (y .long) (within proteinEditLang s (y .tree) (y .parsed))
 
       shut : take (length s - m) (drop m s) ≡ drop (length (printProteinEdit (y .tree))) s
-      shut = tail-part m s ∙ ap (λ (i : ℕ). drop i s) (y .long)
+      shut = tail-at s (y .long)
 
       pub shut-le : starts (ascii ")") (take (length s - m) (drop m s)) ≡ true → m + 1 ≤ length s
       shut-le e = omega (arith, starts-length (ascii ")") (take (length s - m) (drop m s)) e, ap length (tail-part m s), length-drop m s, edit-le)
@@ -126,7 +125,7 @@ module _ (at : ℕ) (s : List ℕ) where
   -- a certain location
   module _ {l : Location} {n : ℕ} {f : Faults} (x : IntervalTold Prot at s l n f) where
     behind : take (length s - n) (drop n s) ≡ drop (length (printEnds Prot (x .tree))) s
-    behind = tail-part n s ∙ ap (λ (i : ℕ). drop i s) (x .long)
+    behind = tail-at s (x .long)
 
     after-plain : (o : Option (Mu ProteinEdit)) → afterAnswer l n f (at + n) o ≡ ordinaryAnswer at (mapO (λ e. change (both (certain (x .tree)) e)) o)
     unfolding ordinaryAnswer
@@ -163,7 +162,7 @@ module _ (at : ℕ) (s : List ℕ) {l : Location} {n : ℕ} {f : Faults} (x : In
       → r ≡ afterAnswer u (1 + (n + 1)) f (at + (1 + (n + 1))) (muProteinEditLang .parse (take (length s - (n + 1)) (drop (n + 1) s))) → r ≡ ordinaryAnswer at (parseOpened s)
   unfolding parseOpened
   shut-found q u h r e =
-      let w : take (length s - (n + 1)) (drop (n + 1) s) ≡ drop 1 (drop (length (printEnds Prot (x .tree))) s) = tail-part (n + 1) s ∙ sym (drop-drop 1 n s) ∙ ap (λ (i : ℕ). drop 1 (drop i s)) (x .long) in
+      let w : take (length s - (n + 1)) (drop (n + 1) s) ≡ drop 1 (drop (length (printEnds Prot (x .tree))) s) = tail-beyond 1 s (x .long) in
       e ∙ after-shut u h (muProteinEditLang .parse (take (length s - (n + 1)) (drop (n + 1) s))) ∙ rw (x .parsed, rw (behind (at + 1) s x) at q, w)
 
   -- `(`location edit`)`

@@ -6,7 +6,7 @@ use mathlib.Core.Option.{Option, none, some}
 use native.Mathlib.Omega.{arith}
 use lib.ListN.{length, take, drop, length-append, length-drop}
 use Rattle.texts.specs.Tests.{none-some}
-use Rattle.texts.specs.Slices.{tail-part}
+use Rattle.texts.specs.Slices.{tail-part, tail-at}
 use Rattle.record.specs.declared.variant.Kind.{Kind}
 use Rattle.record.specs.declared.variant.Kind.the-variants.{Cds, Genome, Mt, Tx, Prot, Rna}
 use Rattle.record.specs.declared.variant.Header as Record
@@ -99,7 +99,7 @@ module _ (s : List ℕ) {h : Record.Header} {n : ℕ} (x : HeaderTold s h n) whe
   header-le = rw (x .long) (within headerLang s (x .tree) (x .parsed))
 
   rest : take (length s - n) (drop n s) ≡ drop (length (printHeader (x .tree))) s
-  rest = tail-part n s ∙ ap (λ (i : ℕ). drop i s) (x .long)
+  rest = tail-at s (x .long)
 
   pub no-kind : KR.Nothing ≡ kindAnswer (kindLang .parse (take (length s - n) (drop n s))) → Nothing ≡ textAnswer (parseText allLetters alphabets s)
   unfolding kindAnswer textAnswer parseText parseBoth
