@@ -4,12 +4,11 @@ use mathlib.Core.Path.{_≡_, refl, ap, _∙_}
 use mathlib.Core.List.{List, [], _∷_, _++_}
 use mathlib.Core.Option.{Option, none, some}
 use mathlib.Core.Bool.{Bool, true, false, cond, _&&_}
-use lib.Dec.{eqb, leb}
+use lib.Dec.{leb}
 use lib.ListN.{length, getD}
-use borrow.Author.Tests.{eqb-true}
 use Rattle.texts.specs.Tests.{clash, and-true, cond-some}
 use Rattle.texts.specs.Runs.{every}
-use Rattle.texts.specs.Words.{same}
+use Rattle.texts.specs.Words.{same, oneEach, one-each}
 use Rattle.number.specs.Written.{unsignedDigits}
 use Rattle.record.specs.declared.variant.Kind.{Kind}
 use Rattle.record.specs.declared.variant.Kind.the-variants.{Cds, Genome, Mt, Tx, Prot, Rna}
@@ -26,10 +25,10 @@ use Rattle.location.specs.Canonical.{locationCanon}
 use Rattle.location.specs.Fits.{location-fits, fits-location}
 use Rattle.na_edits.specs.Alphabet.{Alphabet}
 use Rattle.na_edits.specs.Canon.{canonNaEdit, canonRefAlt}
-use Rattle.na_edits.specs.Canonical.{one-is, muNaEditCanon}
+use Rattle.na_edits.specs.Canonical.{muNaEditCanon}
 use Rattle.headers.specs.Sound.{headerLang}
 use Rattle.headers.specs.Canonical.{canonHeader, headerCanon}
-use Rattle.promise.specs.NoRef.{oneEach, noRefEdit, ShortestHeader, ShortestLocation, NaNoRef, NoRefText}
+use Rattle.promise.specs.NoRef.{noRefEdit, ShortestHeader, ShortestLocation, NaNoRef, NoRefText}
 use Rattle.promise.specs.Unique.{one-no-ref}
 use Rattle.canon.specs.NaBodyCanon.{naBodyCanon}
 use Rattle.canon.specs.TextCanon.{canonText, text-some}
@@ -81,9 +80,8 @@ module _ (na : ℕ → Bool) where
       go : (x y : Bool) → same a b ≡ x → oneEach a b ≡ y → EditFound na (refAlt a b)
       go true y p q = record { tree = equal []; found = rw p; text = rw p }
       go false true p q =
-          let l = and-true (eqb (length a) 1) (eqb (length b) 1) q in
-          let c = one-is a (eqb-true (length a) 1 (l .0)) in
-          let d = one-is b (eqb-true (length b) 1 (l .1)) in
+          let c = one-each a b q .0 in
+          let d = one-each a b q .1 in
           let h = cond-some (every na a && every na b) (canonRefAlt a b) t e in
           record { tree = swap (getD a 0 0) (getD b 0 0); found = rw (p, q) (rw (h .0, p, q)); text = rw (p, q) (cc) }
       go false false p q =

@@ -3,25 +3,21 @@ use Prim.Native.Nat.{ℕ}
 use mathlib.Core.List.{List}
 use mathlib.Core.Option.{Option, none, some}
 use mathlib.Core.Bool.{Bool, cond, _&&_}
-use lib.Dec.{eqb, leb}
+use lib.Dec.{leb}
 use lib.ListN.{length, getD}
 use Rattle.texts.specs.Runs.{every}
-use Rattle.texts.specs.Words.{same}
+use Rattle.texts.specs.Words.{same, oneEach}
 use Rattle.number.specs.Written.{unsignedDigits}
 use Rattle.grammar.specs.NucleotideEdits.{NaEdit, NaEdit.equal, NaEdit.swap, NaEdit.delIns, NaEdit.delNumIns, NaEdit.delNum, NaEdit.del, NaEdit.ins, NaEdit.dup, NaEdit.invNum, NaEdit.inv}
 use Rattle.grammar.specs.Values as Values
 use Rattle.grammar.specs.Values.{NaEditV, NaEditV.refAlt, NaEditV.numAlt, NaEditV.delRef, NaEditV.insV, NaEditV.dupV, NaEditV.invRef}
 use Rattle.lang.specs.Canon.{mapO}
 
--- one letter each
-abbrev pub ones : List ℕ → List ℕ → Bool
-ones a b = eqb (length a) 1 && eqb (length b) 1
-
 -- `a=`, else `A>T`, else `del` a `ins` b with letters b
 abbrev pub canonRefAlt : List ℕ → List ℕ → Option NaEdit
 canonRefAlt a b =
     cond (same a b) (some (equal a))
-    (cond (ones a b) (some (swap (getD a 0 0) (getD b 0 0)))
+    (cond (oneEach a b) (some (swap (getD a 0 0) (getD b 0 0)))
     (cond (leb 1 (length b)) (some (delIns a b)) none))
 
 module _ (na : ℕ → Bool) where

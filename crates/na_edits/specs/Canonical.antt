@@ -5,14 +5,14 @@ use mathlib.Core.List.{List, [], _∷_}
 use mathlib.Core.Option.{none, some}
 use mathlib.Core.Bool.{Bool, true, false, _&&_}
 use native.Mathlib.Omega.{arith}
-use lib.Dec.{eqb, leb}
+use lib.Dec.{leb}
 use lib.ListN.{length, getD, length-append}
-use borrow.Author.Tests.{eqb-true, le-leb, leb-true}
+use borrow.Author.Tests.{le-leb, leb-true}
 use Rattle.texts.specs.Ascii.{ascii}
 use Rattle.texts.specs.Best.{Best.shorter, best-refl, best-append, best-behind}
 use Rattle.texts.specs.Tests.{and-true, none-some, cond-some}
 use Rattle.texts.specs.Runs.{every, Some, every-one, one-every}
-use Rattle.texts.specs.Words.{same, same-true, same-refl}
+use Rattle.texts.specs.Words.{same, same-true, same-refl, oneEach, one-each}
 use Rattle.number.specs.Digits.{val, dec}
 use Rattle.number.specs.Decimals.{dec-best}
 use Rattle.number.specs.Written.{unsignedDigits, unsigned-written, unsigned-found}
@@ -30,7 +30,7 @@ use Rattle.na_edits.specs.Alphabet.{Alphabet}
 use Rattle.na_edits.specs.Choice.{if-holds}
 use Rattle.na_edits.specs.Sound.{naEditLang}
 use Rattle.na_edits.specs.Brackets.{brackets, muNaEditLang}
-use Rattle.na_edits.specs.Canon.{ones, canonRefAlt, canonNaEdit}
+use Rattle.na_edits.specs.Canon.{canonRefAlt, canonNaEdit}
 
 -- ---- numbers that fit
 abbrev pub FitsNaEdit : NaEdit → Type 0
@@ -53,12 +53,6 @@ fits-anywhere j k (inv seq) e = refl
 counted : (f : List ℕ → NaEdit) (k : ℕ) (ds : List ℕ) → misfit (numeral k Plain ds ∷ []) ≡ none → mapO f (unsignedDigits (number Plain ds)) ≡ some (f (dec (val ds)))
 counted f k ds e = ap (mapO f) (unsigned-found (val ds) (one-fits k Plain ds e))
 
--- ---- one letter
-pub one-is : (a : List ℕ) → length a ≡ 1 → a ≡ getD a 0 0 ∷ []
-one-is [] e = absurd (omega arith)
-one-is (x ∷ []) e = refl
-one-is (x ∷ y ∷ a) e = absurd (omega arith)
-
 module _ (na : ℕ → Bool) (al : Alphabet na) where
   abbrev RightEdit : NaEditV → NaEdit → Type 0
   RightEdit = Right (naEditLang na al) meaningNaEdit FitsNaEdit
@@ -68,9 +62,9 @@ module _ (na : ℕ → Bool) (al : Alphabet na) where
 
   -- ---- the tree is one of the value
   right-refAlt : (a b : List ℕ) (t : NaEdit) → every na a ≡ true → every na b ≡ true → canonRefAlt a b ≡ some t → RightEdit (refAlt a b) t
-  right-refAlt a b t ha hb e = go (same a b) (ones a b) (leb 1 (length b)) refl refl refl
+  right-refAlt a b t ha hb e = go (same a b) (oneEach a b) (leb 1 (length b)) refl refl refl
     where
-      go : (x y z : Bool) → same a b ≡ x → ones a b ≡ y → leb 1 (length b) ≡ z → RightEdit (refAlt a b) t
+      go : (x y z : Bool) → same a b ≡ x → oneEach a b ≡ y → leb 1 (length b) ≡ z → RightEdit (refAlt a b) t
       go true y z p q r =
           let h : some (equal a) ≡ some t = rw p at e in
           let i : equal a ≡ t = cc in
@@ -79,9 +73,8 @@ module _ (na : ℕ → Bool) (al : Alphabet na) where
       go false true z p q r =
           let h : some (swap (getD a 0 0) (getD b 0 0)) ≡ some t = rw (p, q) at e in
           let i : swap (getD a 0 0) (getD b 0 0) ≡ t = cc in
-          let l = and-true (eqb (length a) 1) (eqb (length b) 1) q in
-          let ja = one-is a (eqb-true _ _ (l .0)) in
-          let jb = one-is b (eqb-true _ _ (l .1)) in
+          let ja = one-each a b q .0 in
+          let jb = one-each a b q .1 in
           rw (← i) (record { wf = (every-one na _ (rw ja at ha), every-one na _ (rw jb at hb)); fits = refl; means = cc })
       go false false true p q r =
           let h : some (delIns a b) ≡ some t = rw (p, q, r) at e in
@@ -121,9 +114,9 @@ module _ (na : ℕ → Bool) (al : Alphabet na) where
 
   -- ---- and no tree of the value has a better text
   covers-delIns : (a b : List ℕ) → every na a ≡ true → Some na b → CoveredEdit (delIns a b)
-  covers-delIns a b ha hb = go (same a b) (ones a b) refl refl
+  covers-delIns a b ha hb = go (same a b) (oneEach a b) refl refl
     where
-      go : (x y : Bool) → same a b ≡ x → ones a b ≡ y → CoveredEdit (delIns a b)
+      go : (x y : Bool) → same a b ≡ x → oneEach a b ≡ y → CoveredEdit (delIns a b)
       go true y p q =
           let l : length (printNaEdit (equal a)) < length (printNaEdit (delIns a b)) = simp length-append (omega arith) in
           record { tree = equal a; found = rw (ha, hb .all, p); best = shorter l }

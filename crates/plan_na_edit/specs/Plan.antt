@@ -6,13 +6,12 @@ use lib.Dec.{leb}
 use lib.IntN.{ℤ, natAbs}
 use lib.ListN.{length}
 use Rattle.texts.specs.Runs.{every}
-use Rattle.texts.specs.Words.{same}
+use Rattle.texts.specs.Words.{same, oneEach}
 use Rattle.alphabet.specs.Letters.{nucleotide}
 use Rattle.record.specs.declared.spans.Span.{Span}
 use Rattle.record.specs.declared.edits.NaEdit.{NaEdit}
 use Rattle.record.specs.declared.edits.NaEdit.the-variants as Na
 use Rattle.grammar.specs.Spans.{part}
-use Rattle.na_edits.specs.Canon.{ones}
 use Rattle.emit.specs.declared.Word.{Word}
 use Rattle.emit.specs.declared.Word.the-variants.{Empty, Del, Ins, DelIns, Dup, Inv, Equal, Greater}
 use Rattle.emit.specs.declared.Mark.the-variants.{Nothing}
@@ -46,7 +45,7 @@ module _ (s : List ℕ) where
   sameParts p q = same (part s p) (part s q)
 
   abbrev pub onesParts : Span → Span → Bool
-  onesParts p q = ones (part s p) (part s q)
+  onesParts p q = oneEach (part s p) (part s q)
 
   -- `a=`, else `A>T`, else `del` a `ins` b with letters b
   unfoldable pub planChange : Span → Span → RowPlan

@@ -4,12 +4,11 @@ use mathlib.Core.Path.{_≡_, refl, ap, _∙_}
 use mathlib.Core.List.{List, _∷_, _++_, append-nil}
 use mathlib.Core.Option.{none, some}
 use mathlib.Core.Bool.{Bool, true, false, cond, _&&_}
-use lib.Dec.{eqb, leb}
+use lib.Dec.{leb}
 use lib.IntN.{ℤ, natAbs}
 use lib.ListN.{length, getD}
-use borrow.Author.Tests.{eqb-true}
 use Rattle.texts.specs.Ascii.{ascii}
-use Rattle.texts.specs.Tests.{and-true}
+use Rattle.texts.specs.Words.{one-each}
 use Rattle.number.specs.Digits.{dec}
 use Rattle.number.specs.Written.{unsignedDigits}
 use Rattle.alphabet.specs.Letters.{nucleotide}
@@ -22,7 +21,6 @@ use Rattle.grammar.specs.NucleotideEdits as Tree
 use Rattle.grammar.specs.NucleotideEdits.{NaEdit.equal, NaEdit.swap, NaEdit.delIns, NaEdit.delNumIns, NaEdit.delNum, NaEdit.del, NaEdit.ins, NaEdit.dup, NaEdit.invNum, NaEdit.inv, printNaEdit}
 use Rattle.lang.specs.Canon.{mapO}
 use Rattle.na_edits.specs.Canon.{canonRefAlt, canonNaEdit}
-use Rattle.na_edits.specs.Canonical.{one-is}
 use Rattle.promise.specs.NoRef.{noRefEdit}
 use Rattle.emit.specs.declared.Word.{Word}
 use Rattle.emit.specs.declared.Word.the-variants.{Empty, Del, Ins, DelIns, Dup, Inv, Equal, Greater}
@@ -55,9 +53,8 @@ module _ (s : List ℕ) where
 
   swap-text : (p q : Span) → onesParts s p q ≡ true → rowText s (lettersRow p Greater q) ≡ printNaEdit (swap (getD (part s p) 0 0) (getD (part s q) 0 0))
   swap-text p q h =
-      let l = and-true (eqb (length (part s p)) 1) (eqb (length (part s q)) 1) h in
-      let a = one-is (part s p) (eqb-true _ _ (l .0)) in
-      let b = one-is (part s q) (eqb-true _ _ (l .1)) in
+      let a = one-each (part s p) (part s q) h .0 in
+      let b = one-each (part s p) (part s q) h .1 in
       letters-text s p Greater q ∙ ap (λ (x : List ℕ). x ++ (ascii ">" ++ part s q)) a ∙ ap (λ (y : List ℕ). getD (part s p) 0 0 ∷ (ascii ">" ++ y)) b
 
   -- ---- the plans

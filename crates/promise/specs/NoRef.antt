@@ -3,11 +3,9 @@ use Prim.Native.Nat.{ℕ}
 use mathlib.Core.Path.{_≡_}
 use mathlib.Core.List.{List, [], _∷_, _++_}
 use mathlib.Core.Option.{none}
-use mathlib.Core.Bool.{Bool, cond, _&&_}
-use lib.Dec.{eqb}
-use lib.ListN.{length}
+use mathlib.Core.Bool.{Bool, cond}
 use Rattle.texts.specs.Ascii.{ascii}
-use Rattle.texts.specs.Words.{same}
+use Rattle.texts.specs.Words.{same, oneEach}
 use Rattle.record.specs.declared.variant.Kind.{Kind}
 use Rattle.record.specs.declared.variant.Kind.the-variants.{Cds, Genome, Mt, Tx, Prot, Rna}
 use Rattle.grammar.specs.Header.{Header, printHeader, WfHeader, printKind}
@@ -18,10 +16,6 @@ use Rattle.grammar.specs.Meaning.{meaningHeader, meaningEnds, mapMu}
 use Rattle.grammar.specs.Numbers.{misfit, muNumbers, endsNumbers}
 use Rattle.grammar.specs.Reads.{BestText}
 use Rattle.promise.specs.Writing.{ShortestText}
-
--- one letter each
-abbrev pub oneEach : List ℕ → List ℕ → Bool
-oneEach a b = eqb (length a) 1 && eqb (length b) 1
 
 -- the edit from `NoRef<NaEdit>`
 abbrev pub noRefEdit : NaEditV → List ℕ

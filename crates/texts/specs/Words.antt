@@ -25,6 +25,20 @@ same [] (y ∷ b) = false
 same (x ∷ a) [] = false
 same (x ∷ a) (y ∷ b) = eqb x y && same a b
 
+-- two texts are one byte each
+abbrev pub oneEach : List ℕ → List ℕ → Bool
+oneEach a b = eqb (length a) 1 && eqb (length b) 1
+
+one-is : (a : List ℕ) → length a ≡ 1 → a ≡ getD a 0 0 ∷ []
+one-is [] e = absurd (omega arith)
+one-is (x ∷ []) e = refl
+one-is (x ∷ y ∷ a) e = absurd (omega arith)
+
+pub one-each : (a b : List ℕ) → oneEach a b ≡ true → (a ≡ getD a 0 0 ∷ []) × (b ≡ getD b 0 0 ∷ [])
+one-each a b e =
+    let h = and-true (eqb (length a) 1) (eqb (length b) 1) e in
+    (one-is a (eqb-true (length a) 1 (h .0)), one-is b (eqb-true (length b) 1 (h .1)))
+
 pub starts-append : (w r : List ℕ) → starts w (w ++ r) ≡ true
 unfolding starts
 starts-append [] r = refl
