@@ -15,15 +15,13 @@ use Rattle.alphabet.specs.Letters.{residue}
 use Rattle.residue.specs.Rows.{rows}
 use Rattle.residue.specs.Residues.{oneOf, isThree, isOne, isResidue, isResidues}
 use Rattle.grammar.specs.Optional.{printOptional}
-use Rattle.grammar.specs.Shapes.{Mu, Mu.certain, Mu.uncertain}
 use Rattle.grammar.specs.ProteinEdits.{Length, Length.counted, Length.unknown, Length.unsaid, Stop, Stop.stop, ExtEnd, ExtEnd.nothing, ExtEnd.later, ExtEnd.earlier, ProteinEdit, ProteinEdit.subst, ProteinEdit.substUnknown, ProteinEdit.equal, ProteinEdit.del, ProteinEdit.dup, ProteinEdit.ins, ProteinEdit.delIns, ProteinEdit.fs, ProteinEdit.ext, printTerminal, WfProteinEdit}
 use Rattle.grammar.specs.Values.{ProteinEditV, ProteinEditV.fsV, ProteinEditV.extV, ProteinEditV.substV, ProteinEditV.delInsV, ProteinEditV.insPV, ProteinEditV.delV, ProteinEditV.dupPV, ProteinEditV.identV}
 use Rattle.grammar.specs.Meaning.{meaningFs, meaningExt, meaningProteinEdit}
-use Rattle.grammar.specs.Numbers.{misfit, lengthNumbers, stopNumbers, fsNumbers, extNumbers, proteinEditNumbers, muNumbers}
+use Rattle.grammar.specs.Numbers.{misfit, lengthNumbers, stopNumbers, fsNumbers, extNumbers, proteinEditNumbers}
 use Rattle.grammar.specs.NumberLaws.{one-anywhere}
 use Rattle.lang.specs.Canon.{Canon, Right, Covered, mapO, map-some}
-use Rattle.lang.specs.MuCanon.{mu-canon}
-use Rattle.protein_edits.specs.Instance.{proteinEditLang, brackets, muProteinEditLang}
+use Rattle.protein_edits.specs.Instance.{proteinEditLang}
 use Rattle.protein_edits.specs.Canon.{canonFsEnd, isOptional, canonExtEnd, canonProteinEdit}
 use Rattle.protein_edits.specs.CanonEnds.{fs-right, fs-covers, fsCanon, optional-wf, wf-optional, ext-right, ext-covers, extCanon}
 
@@ -130,15 +128,3 @@ covers (ext r e) w f =
 
 abbrev pub proteinEditCanon : Canon proteinEditLang
 proteinEditCanon = record { Value = ProteinEditV; meaning = meaningProteinEdit; Fits = FitsProteinEdit; canon = canonProteinEdit; right = right; covers = covers }
-
--- ---- with and without brackets
-abbrev pub muProteinEditCanon : Canon muProteinEditLang
-muProteinEditCanon = mu-canon proteinEditLang brackets proteinEditCanon
-
-pub mu-fits : (k : ℕ) (t : Mu ProteinEdit) → misfit (muNumbers proteinEditNumbers k t) ≡ none → muProteinEditCanon .Fits t
-mu-fits k (certain t) h = fits-anywhere k 0 t h
-mu-fits k (uncertain t) h = fits-anywhere (k + 1) 0 t h
-
-pub fits-mu : (k : ℕ) (t : Mu ProteinEdit) → muProteinEditCanon .Fits t → misfit (muNumbers proteinEditNumbers k t) ≡ none
-fits-mu k (certain t) h = fits-anywhere 0 k t h
-fits-mu k (uncertain t) h = fits-anywhere 0 (k + 1) t h
