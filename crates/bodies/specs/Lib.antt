@@ -3,3 +3,4 @@ pub mod ProteinBodies
 pub mod ProteinSound
 pub mod BodyLang
 pub mod WholeText
+pub mod Trees

@@ -1,7 +1,7 @@
 -- Document 01, "Pairs at the edge": read, and written again.
 use Prim.Native.Nat.{ℕ, _≤_}
 use Prim.Native.String.{String}
-use mathlib.Core.Path.{_≡_, refl, sym, ap, _∙_}
+use mathlib.Core.Path.{_≡_, refl}
 use mathlib.Core.List.{List, [], _∷_, _++_, map}
 use mathlib.Core.Option.{Option, none, some}
 use mathlib.Core.Bool.{Bool, true, false, cond}
@@ -10,7 +10,6 @@ use lib.IntN.{pos}
 use lib.ListN.{length}
 use borrow.Author.Tests.{leb-true, leb-false}
 use Rattle.texts.specs.Ascii.{ascii}
-use Rattle.texts.specs.Tests.{none-some}
 use Rattle.texts.specs.Runs.{every, run, front, behind}
 use Rattle.texts.specs.Words.{starts, same}
 use Rattle.alphabet.specs.Letters.{nucleotide, residue, letter, digit, alphanumeric}
@@ -43,7 +42,8 @@ use Rattle.headers.specs.Parse.{parseAccession, parseGene, parseHeader}
 use Rattle.headers.specs.Kinds.{firstKind, parseKind}
 use Rattle.headers.specs.Canonical.{canonHeader}
 use Rattle.bodies.specs.ProteinBodies.{firstExact, parseOpened, parsePlain, parseOrdinary, parseProteinBody}
-use Rattle.bodies.specs.WholeText.{parseText, sound-text, complete-text}
+use Rattle.bodies.specs.WholeText.{parseText}
+use Rattle.bodies.specs.Trees.{parsed-tree, no-tree}
 use Rattle.promise.specs.Outcome.{Outcome.refused, limit}
 use Rattle.promise.specs.Reading.{Reads, Reads.tooLong, Reads.notInGrammar, Reads.doesNotFit}
 use Rattle.promise.specs.Writing.{ReadsAsValue, ShortestText}
@@ -118,15 +118,15 @@ answer-holds : (t : List ℕ) → Holds (row t (answer t))
 answer-holds t = go (leb (length t) limit) refl
   where
     fitting : length t ≤ limit → (x : Text) → parseText allLetters alphabets t ≡ some x → (m : Option ℕ) → misfit (numbersAt 0 x) ≡ m → Holds (row t (rewritten m (hasLocation (meaning x)) (canonText allLetters alphabets (meaning x))))
-    fitting l x e (some place) f = let s = sound-text allLetters alphabets t x e in doesNotFit l x (record { wf = s .0; text = s .1 }) place f
+    fitting l x e (some place) f = doesNotFit l x (parsed-tree allLetters alphabets t x e) place f
     fitting l x e none f =
-        let s = sound-text allLetters alphabets t x e in
-        let r : ReadsAsValue allLetters t (meaning x) = record { tree = x; wf = s .0; fits = f; text = s .1; means = refl } in
+        let s = parsed-tree allLetters alphabets t x e in
+        let r : ReadsAsValue allLetters t (meaning x) = record { tree = x; wf = s .wf; fits = f; text = s .text; means = refl } in
         let c = reads-canon allLetters alphabets (meaning x) t r in
         rw (c .found) (given-holds (hasLocation (meaning x)) t (print (c .tree)) (record { means = meaning x; form = refl; reads = r; shortest = c .shortest }))
 
     tree : length t ≤ limit → (o : Option Text) → parseText allLetters alphabets t ≡ o → Holds (row t (onTree o))
-    tree l none e = notInGrammar l (λ x w. none-some (sym e ∙ ap (parseText allLetters alphabets) (sym (w .text)) ∙ complete-text allLetters alphabets x (w .wf)))
+    tree l none e = notInGrammar l (no-tree allLetters alphabets t e)
     tree l (some x) e = fitting l x e (misfit (numbersAt 0 x)) refl
 
     go : (b : Bool) → leb (length t) limit ≡ b → Holds (row t (cond b (onTree (parseText allLetters alphabets t)) (refusal 1 0)))

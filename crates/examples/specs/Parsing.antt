@@ -1,9 +1,8 @@
 -- The parser with document 01's letters, and what it computes of a text.
 use Prim.Native.Nat.{ℕ}
-use mathlib.Core.Path.{_≡_, sym, _∙_}
+use mathlib.Core.Path.{_≡_}
 use mathlib.Core.List.{List}
-use mathlib.Core.Option.{Option, none, some}
-use Rattle.texts.specs.Tests.{none-some}
+use mathlib.Core.Option.{Option, some}
 use Rattle.texts.specs.Runs.{run, front, behind}
 use Rattle.texts.specs.Words.{starts, same}
 use Rattle.alphabet.specs.Letters.{letter, digit, alphanumeric, nucleotide, residue}
@@ -23,7 +22,8 @@ use Rattle.headers.specs.Optionals.{isThere, parseOptional}
 use Rattle.headers.specs.Parse.{parseAccession, parseGene, parseHeader}
 use Rattle.headers.specs.Kinds.{firstKind, parseKind}
 use Rattle.bodies.specs.ProteinBodies.{firstExact, parseOpened, parsePlain, parseOrdinary, parseProteinBody}
-use Rattle.bodies.specs.WholeText.{parseText, complete-text, sound-text}
+use Rattle.bodies.specs.WholeText.{parseText}
+use Rattle.bodies.specs.Trees.{tree-parsed}
 use Rattle.promise.specs.Reading.{TreeOf}
 use Rattle.na_edits.specs.Alphabet.{alphabets}
 
@@ -35,19 +35,6 @@ unfoldable pub computing : List ℕ → Option Text
 unfolding run front behind starts same letter digit alphanumeric nucleotide residue rows oneOf isThree isOne residueLen threesLen residuesLen whole parseBoth parseMu parseInterval onDigits parseMark parseOffset parseBased parseUnstarred parseGenomic parseResidual onSome parseIdent parseSubst inserted afterDelNum afterDel afterInv parseDel parseIns parseDup parseInv parseNaEdit bytesOf terminalAt lengthAt stopAt earlierWith earlierAt extEndAt residuesBehind insertedAt wordedAt parseWith parse isThere parseOptional parseAccession parseGene parseHeader firstKind parseKind firstExact parseOpened parsePlain parseOrdinary parseProteinBody parseText
 computing = parser
 
-module _ (t : List ℕ) where
-  -- every tree of the text is found
-  finds : (y : Text) → TreeOf allLetters t y → parser t ≡ some y
-  finds y h = rw (h .text) at (complete-text allLetters alphabets y (h .wf))
-
-  -- what was found is a tree of the text, and the only one
-  module _ (x : Text) (e : parser t ≡ some x) where
-    pub found : TreeOf allLetters t x
-    found = let s = sound-text allLetters alphabets t x e in record { wf = s .0; text = s .1 }
-
-    pub only : (y : Text) → TreeOf allLetters t y → y ≡ x
-    only y h = let f = finds y h in cc
-
-  -- where nothing was found the text has no tree
-  pub nothing-found : parser t ≡ none → (y : Text) → TreeOf allLetters t y → ⊥
-  nothing-found e y h = none-some (sym e ∙ finds y h)
+-- what was found is the only tree of the text
+pub only : (t : List ℕ) (x : Text) → parser t ≡ some x → (y : Text) → TreeOf allLetters t y → y ≡ x
+only t x e y h = let f = tree-parsed allLetters alphabets t y h in cc

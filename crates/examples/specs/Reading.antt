@@ -43,7 +43,9 @@ use Rattle.promise.specs.Outcome.{readOutcome, limit}
 use Rattle.promise.specs.Reading.{Reads, Reads.tooLong, Reads.notInGrammar, Reads.doesNotFit, Reads.accepted}
 use Rattle.reader.specs.Unique.{one-answer}
 use Rattle.examples.specs.Tables.{Each, each-so, columns, Row, row}
-use Rattle.examples.specs.Parsing.{parser, computing, found, nothing-found}
+use Rattle.na_edits.specs.Alphabet.{alphabets}
+use Rattle.bodies.specs.Trees.{parsed-tree, no-tree}
+use Rattle.examples.specs.Parsing.{parser, computing}
 
 -- ---- the one answer to a text, computed
 abbrev onMisfit : Text → Option ℕ → ReadAnswer
@@ -61,11 +63,11 @@ answer-reads : (t : List ℕ) → Reads allLetters t (readOutcome (answer t))
 answer-reads t = go (leb (length t) limit) refl
   where
     fitting : (x : Text) (m : Option ℕ) → leb (length t) limit ≡ true → parser t ≡ some x → misfit (numbersAt 0 x) ≡ m → Reads allLetters t (readOutcome (onMisfit x m))
-    fitting x none h e f = accepted (leb-true (length t) limit h) x (found t x e) f
-    fitting x (some place) h e f = doesNotFit (leb-true (length t) limit h) x (found t x e) place f
+    fitting x none h e f = accepted (leb-true (length t) limit h) x (parsed-tree allLetters alphabets t x e) f
+    fitting x (some place) h e f = doesNotFit (leb-true (length t) limit h) x (parsed-tree allLetters alphabets t x e) place f
 
     tree : (o : Option Text) → leb (length t) limit ≡ true → parser t ≡ o → Reads allLetters t (readOutcome (onTree o))
-    tree none h e = notInGrammar (leb-true (length t) limit h) (nothing-found t e)
+    tree none h e = notInGrammar (leb-true (length t) limit h) (no-tree allLetters alphabets t e)
     tree (some x) h e = fitting x (misfit (numbersAt 0 x)) h e refl
 
     go : (b : Bool) → leb (length t) limit ≡ b → Reads allLetters t (readOutcome (cond b (onTree (parser t)) TooLong))

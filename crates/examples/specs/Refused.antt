@@ -6,7 +6,9 @@ use mathlib.Core.Option.{none}
 use Rattle.texts.specs.Ascii.{ascii}
 use Rattle.grammar.specs.Texts.{Text, print, Wf, allLetters}
 use Rattle.examples.specs.Tables.{Each, each-so, columns}
-use Rattle.examples.specs.Parsing.{parser, computing, nothing-found}
+use Rattle.na_edits.specs.Alphabet.{alphabets}
+use Rattle.bodies.specs.Trees.{no-tree}
+use Rattle.examples.specs.Parsing.{parser, computing}
 
 abbrev pub refused : List (List ℕ)
 refused =
@@ -74,4 +76,4 @@ abbrev pub NoTree : List ℕ → Type 0
 NoTree t = (x : Text) → Wf allLetters x → print x ≡ t → ⊥
 
 pub not-in-the-language : Each NoTree refused
-not-in-the-language = each-so Unfound NoTree (λ t e x w p. nothing-found t e x (record { wf = w; text = p })) refused unparsed
+not-in-the-language = each-so Unfound NoTree (λ t e x w p. no-tree allLetters alphabets t e x (record { wf = w; text = p })) refused unparsed

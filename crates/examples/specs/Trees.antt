@@ -8,7 +8,9 @@ use Rattle.grammar.specs.Bodies.{ProteinBody.met1, ProteinBody.bracketedMet1}
 use Rattle.grammar.specs.Texts.{Text, Text.text, allLetters}
 use Rattle.promise.specs.Reading.{TreeOf}
 use Rattle.examples.specs.Tables.{Each, each-so, columns, Row, ab}
-use Rattle.examples.specs.Parsing.{parser, computing, found, only}
+use Rattle.na_edits.specs.Alphabet.{alphabets}
+use Rattle.bodies.specs.Trees.{parsed-tree}
+use Rattle.examples.specs.Parsing.{parser, computing, only}
 use Rattle.examples.specs.Nucleotides.{nucleotides}
 use Rattle.examples.specs.Proteins.{initiations, proteins}
 
@@ -25,7 +27,7 @@ parses = columns (λ r. parser r.written) (λ r. some r.beside) examples refl
 
 -- it is well formed and prints as the text
 pub trees : Each (λ r. TreeOf allLetters r.written r.beside) examples
-trees = each-so Found _ (λ r e. found r.written r.beside e) examples parses
+trees = each-so Found _ (λ r e. parsed-tree allLetters alphabets r.written r.beside e) examples parses
 
 -- every tree of the text is this one
 abbrev pub Only : Row Text → Type 0

@@ -8,7 +8,7 @@ use native.Mathlib.Omega.{arith}
 use lib.Dec.{leb}
 use lib.ListN.{length, length-append}
 use borrow.Author.Tests.{le-leb, lt-leb, leb-true, leb-false}
-use Rattle.texts.specs.Tests.{clash, none-some}
+use Rattle.texts.specs.Tests.{clash}
 use Rattle.texts.specs.Best.{best-length}
 use Rattle.lent.specs.Put.{put, put-front}
 use Rattle.number.specs.Decimals.{dec-short}
@@ -19,7 +19,8 @@ use Rattle.grammar.specs.Numbers.{misfit, numbersAt}
 use Rattle.grammar.specs.Records.{recordAt}
 use Rattle.grammar.specs.Contents.{content}
 use Rattle.grammar.specs.ContentLaw.{content-is}
-use Rattle.bodies.specs.WholeText.{parseText, sound-text, complete-text}
+use Rattle.bodies.specs.WholeText.{parseText}
+use Rattle.bodies.specs.Trees.{tree-parsed, parsed-tree, no-tree}
 use Rattle.promise.specs.Outcome.{Outcome, Outcome.given, Outcome.refused, limit}
 use Rattle.promise.specs.Reading.{TreeOf, Reads, Reads.tooLong, Reads.notInGrammar, Reads.doesNotFit, Reads.accepted}
 use Rattle.promise.specs.Writing.{ReadsAsValue, ShortestText, Unsound, Unsound.tooLong, Unsound.badSpan, Unsound.noText, Writes, ToWrite}
@@ -45,21 +46,18 @@ module _ (l : List ℕ) where
   unfolding lineAnswer
   answer-fits h o e = rw (le-leb (length l) limit h, e)
 
-  no-tree : ((x : Text) → TreeOf allLetters l x → ⊥) → parse l ≡ none
-  no-tree g = go (parse l) refl
+  nothing-parsed : ((x : Text) → TreeOf allLetters l x → ⊥) → parse l ≡ none
+  nothing-parsed g = go (parse l) refl
     where
       go : (o : Option Text) → parse l ≡ o → parse l ≡ none
       go none e = e
-      go (some x) e = let s = sound-text allLetters alphabets l x e in absurd (g x (record { wf = s .0; text = s .1 }))
-
-  tree-found : (x : Text) → TreeOf allLetters l x → parse l ≡ some x
-  tree-found x w = rw (w .text) at (complete-text allLetters alphabets x (w .wf))
+      go (some x) e = absurd (g x (parsed-tree allLetters alphabets l x e))
 
   pub refused-answer : (n place : ℕ) → Reads allLetters l (refused n place) → lineAnswer (whole l) ≡ refusal n place
   unfolding lineAnswer
   refused-answer n place (Reads.tooLong h) = rw (lt-leb (length l) limit h)
-  refused-answer n place (notInGrammar h g) = answer-fits h none (no-tree g)
-  refused-answer n place (doesNotFit h x w p e) = answer-fits h (some x) (tree-found x w) ∙ rw e
+  refused-answer n place (notInGrammar h g) = answer-fits h none (nothing-parsed g)
+  refused-answer n place (doesNotFit h x w p e) = answer-fits h (some x) (tree-parsed allLetters alphabets l x w) ∙ rw e
 
   pub text-answer : (v : HgvsVariant) → Reads allLetters l (given v) → (t : List ℕ) → ShortestText allLetters t (content l v) → t ≡ lineAnswer (whole l)
   text-answer v (accepted h x w f) t s =
@@ -67,14 +65,14 @@ module _ (l : List ℕ) where
       let m : content l (recordAt 0 x) ≡ meaning x = rw (w .text) at (content-is x) in
       let c = reads-canon allLetters alphabets (content l (recordAt 0 x)) l r in
       let q : canonText allLetters alphabets (meaning x) ≡ some (c .tree) = ap (canonText allLetters alphabets) (sym m) ∙ c .found in
-      shortest-only allLetters alphabets (content l (recordAt 0 x)) (c .tree) (c .found) t s ∙ sym (answer-fits h (some x) (tree-found x w) ∙ rw (f, q))
+      shortest-only allLetters alphabets (content l (recordAt 0 x)) (c .tree) (c .found) t s ∙ sym (answer-fits h (some x) (tree-parsed allLetters alphabets l x w) ∙ rw (f, q))
 
   -- ---- and there is one
   reads-some : (h : length l ≤ limit) (x : Text) → parse l ≡ some x → Answers l (ofTree (some x))
   reads-some h x e = go (misfit (numbersAt 0 x)) refl
     where
       tree : TreeOf allLetters l x
-      tree = let s = sound-text allLetters alphabets l x e in record { wf = s .0; text = s .1 }
+      tree = parsed-tree allLetters alphabets l x e
 
       go : (o : Option ℕ) → misfit (numbersAt 0 x) ≡ o → Answers l (ofMisfit x o)
       go (some place) f = number 3 place (doesNotFit h x tree place f)
@@ -92,7 +90,7 @@ module _ (l : List ℕ) where
       go : (b : Bool) → leb (length l) limit ≡ b → (o : Option Text) → parse l ≡ o → Answers l (cond b (ofTree (parse l)) (refusal 1 0))
       go false e o f = number 1 0 (Reads.tooLong (leb-false (length l) limit e))
       go true e none f =
-          rw f (number 2 0 (notInGrammar (leb-true (length l) limit e) (λ x w. none-some (sym f ∙ tree-found x w))))
+          rw f (number 2 0 (notInGrammar (leb-true (length l) limit e) (no-tree allLetters alphabets l f)))
       go true e (some x) f = rw f (reads-some (leb-true (length l) limit e) x f)
 
   -- a line longer than a text may be is refused as a text is

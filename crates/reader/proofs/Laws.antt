@@ -5,7 +5,6 @@ use mathlib.Core.List.{List, [], _∷_, _++_}
 use mathlib.Core.Option.{Option, none, some}
 use native.Mathlib.Omega.{arith}
 use lib.ListN.{length, take, drop, length-append, length-drop}
-use Rattle.texts.specs.Tests.{none-some}
 use Rattle.texts.specs.Slices.{tail-part, tail-at}
 use Rattle.record.specs.declared.variant.Kind.{Kind}
 use Rattle.record.specs.declared.variant.Kind.the-variants.{Cds, Genome, Mt, Tx, Prot, Rna}
@@ -30,7 +29,8 @@ use Rattle.headers.specs.Kinds.{kindLang, headingLang}
 use Rattle.bodies.specs.NaBodies.{naBodyLang}
 use Rattle.bodies.specs.ProteinBodies.{parseProteinBody}
 use Rattle.bodies.specs.BodyLang.{parseBody}
-use Rattle.bodies.specs.WholeText.{onHeading, parseText, sound-text, complete-text}
+use Rattle.bodies.specs.WholeText.{onHeading, parseText}
+use Rattle.bodies.specs.Trees.{parsed-tree, no-tree}
 use Rattle.promise.specs.Outcome.{Outcome.given, Outcome.refused, limit}
 use Rattle.promise.specs.Reading.{Reads, Reads.notInGrammar, Reads.doesNotFit, Reads.accepted}
 use Rattle.scan.specs.declared.Place.the-variants.{Nowhere, At}
@@ -161,14 +161,13 @@ module _ (s : List ℕ) (short : length s ≤ limit) where
   unfolding textAnswer
   reads-nothing e =
       by-answer textAnswer (parseText allLetters alphabets s) e
-      (λ q z. notInGrammar short (λ x t. none-some (sym q ∙ rw (t .text) at (complete-text allLetters alphabets x (t .wf)))))
+      (λ q z. notInGrammar short (no-tree allLetters alphabets s q))
       (λ x q z. absurd (let y : _≡_ {A = ℕ} 0 1 = cc in omega arith))
 
   module _ {v : HgvsVariant} {f : Faults} (x : TextTold s v f) where
     pub reads-unfit : (place : ℕ) → f .unfit ≡ At place → Reads allLetters s (refused 3 place)
     reads-unfit place e =
-        let w = sound-text allLetters alphabets s (x .tree) (x .parsed) in
-        doesNotFit short (x .tree) (record { wf = w .0; text = w .1 }) place (go (misfit (numbersAt 0 (x .tree))) (sym (x .wrong) ∙ e))
+        doesNotFit short (x .tree) (parsed-tree allLetters alphabets s (x .tree) (x .parsed)) place (go (misfit (numbersAt 0 (x .tree))) (sym (x .wrong) ∙ e))
       where
         go : (o : Option ℕ) → placeOf o ≡ At place → o ≡ some place
         go none k = absurd (let z : _≡_ {A = ℕ} 0 1 = cc in omega arith)
@@ -176,8 +175,7 @@ module _ (s : List ℕ) (short : length s ≤ limit) where
 
     pub reads-accepted : f .unfit ≡ Nowhere → Reads allLetters s (given v)
     reads-accepted e =
-        let w = sound-text allLetters alphabets s (x .tree) (x .parsed) in
-        rw (x .means) (accepted short (x .tree) (record { wf = w .0; text = w .1 }) (go (misfit (numbersAt 0 (x .tree))) (sym (x .wrong) ∙ e)))
+        rw (x .means) (accepted short (x .tree) (parsed-tree allLetters alphabets s (x .tree) (x .parsed)) (go (misfit (numbersAt 0 (x .tree))) (sym (x .wrong) ∙ e)))
       where
         go : (o : Option ℕ) → placeOf o ≡ Nowhere → o ≡ none
         go none k = refl
