@@ -6,8 +6,8 @@ use std::time::{Duration, Instant};
 
 use bench::{ours, rust, texts};
 
-const ROUNDS: usize = 7;
-const ROUND: Duration = Duration::from_millis(120);
+const ROUNDS: usize = 60;
+const ROUND: Duration = Duration::from_millis(15);
 
 /// Nanoseconds for all the texts once: the best of several rounds.
 fn time(texts: &[String], mut work: impl FnMut(&str) -> bool) -> f64 {

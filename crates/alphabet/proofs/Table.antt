@@ -10,7 +10,7 @@ use Rattle.texts.specs.Ascii.{ascii}
 use Rattle.texts.specs.Tests.{and-true, clash}
 use Rattle.alphabet.specs.Letters.{among, digit, letter, alphanumeric, nucleotide, residue}
 use Rattle.alphabet.specs.Classes.{member}
-use Rattle.alphabet.specs.Cells.{within, numbered, Cell}
+use Rattle.alphabet.specs.Cells.{within, lowest, highest, numbered, Cell, IsTable}
 use Rattle.alphabet.specs.declared.Class.{Class}
 use Rattle.alphabet.specs.declared.Class.the-variants.{Digit, Letter, Alphanumeric, Nucleotide, Residue}
 
@@ -56,17 +56,16 @@ entry ks e b h =
 -- the letters that have one number, from 1 on
 abbrev cells : List (List ℕ)
 cells =
-    ascii "0123456789" ∷
     ascii "*" ∷
+    ascii "EFILPQXZ" ∷
+    ascii "U" ∷
     ascii "ACGRYMKWSBDHVN" ∷
     ascii "T" ∷
-    ascii "U" ∷
-    ascii "EFILPQXZ" ∷
-    ascii "JO" ∷
-    ascii "acgrymkwsbdhvn" ∷
     ascii "t" ∷
+    ascii "acgrymkwsbdhvn" ∷
     ascii "u" ∷
-    ascii "efijlopqxz" ∷
+    ascii "JOefijlopqxz" ∷
+    ascii "0123456789" ∷
     []
 
 -- the number of the first of the cells from k on that has b, and 0 where none does
@@ -79,6 +78,9 @@ abbrev numbers : ℕ → ℕ → List ℕ
 numbers zero b = []
 numbers (suc n) b = numberFrom 1 cells b ∷ numbers n (suc b)
 
-pub table-rule : (b : ℕ) → b < 256 → Cell b (getD (numbers 256 0) b 0)
-unfolding digit letter alphanumeric nucleotide residue member within numbered
+table-rule : (b : ℕ) → b < 256 → Cell b (getD (numbers 256 0) b 0)
+unfolding digit letter alphanumeric nucleotide residue member within lowest highest numbered
 table-rule = entry (numbers 256 0) refl
+
+pub table : IsTable (numbers 256 0)
+table = record { cell = table-rule }

@@ -1,8 +1,7 @@
 -- How the alphabets lie to each other: what passes one test and what therefore not.
 use Prim.Native.Nat.{ℕ, _≤_, _<_}
-use Prim.Native.Char.{code}
 use mathlib.Core.Path.{_≡_, refl}
-use mathlib.Core.Bool.{Bool, true, false, not, _&&_, _||_}
+use mathlib.Core.Bool.{Bool, true, false, not, _&&_}
 use mathlib.Core.List.{List, [], _∷_, _++_}
 use mathlib.Core.Logic.{⊎-elim}
 use native.Mathlib.Omega.{arith}
@@ -31,10 +30,6 @@ among-none p b xs e h = not-true (p b) (among-every (λ x. not (p x)) b xs e h)
 pub none-among : (p : ℕ → Bool) (b : ℕ) (xs : List ℕ) → every (λ x. not (p x)) xs ≡ true → p b ≡ true → among b xs ≡ false
 none-among p b xs e h = never (among b xs) (λ q. clash h (among-none p b xs e q))
 
--- upper-case letters
-unfoldable pub upper : ℕ → Bool
-upper b = leb 65 b && leb b 90
-
 module _ (b : ℕ) where
   -- ---- digits and letters
   pub digit-bounds : digit b ≡ true → (48 ≤ b) × (b ≤ 57)
@@ -55,48 +50,15 @@ module _ (b : ℕ) where
   pub letter-no-digit : letter b ≡ true → digit b ≡ false
   letter-no-digit h = never (digit b) (λ q. omega (arith, digit-bounds q, letter-bounds h))
 
-  pub digit-no-letter : digit b ≡ true → letter b ≡ false
-  digit-no-letter h = never (letter b) (λ q. clash h (letter-no-digit q))
-
   -- ---- nucleotide letters
   pub nucleotide-letter : nucleotide b ≡ true → letter b ≡ true
   unfolding nucleotide letter every
   nucleotide-letter = among-every letter b (eitherCase (ascii "ACGTURYMKWSBDHVN")) refl
 
-  pub nucleotide-no-digit : nucleotide b ≡ true → digit b ≡ false
-  nucleotide-no-digit h = letter-no-digit (nucleotide-letter h)
-
-  pub digit-no-nucleotide : digit b ≡ true → nucleotide b ≡ false
-  digit-no-nucleotide h = never (nucleotide b) (λ q. clash h (nucleotide-no-digit q))
-
-  pub nucleotide-no-mark : nucleotide b ≡ true → among b (ascii "eip=>()_?+-*:.") ≡ false
-  unfolding nucleotide every
-  nucleotide-no-mark = none-among nucleotide b (ascii "eip=>()_?+-*:.") refl
-
   -- ---- residues
-  pub residue-upper : residue b ≡ true → upper b || eqb b (code "*") ≡ true
-  unfolding residue upper every
-  residue-upper = among-every (λ x. upper x || eqb x (code "*")) b (ascii "ACDEFGHIKLMNPQRSTVWYBZXU" ++ ascii "*") refl
-
   pub residue-bound : residue b ≡ true → b ≤ 90
   unfolding residue every
   residue-bound h = leb-true b 90 (among-every (λ x. leb x 90) b (ascii "ACDEFGHIKLMNPQRSTVWYBZXU" ++ ascii "*") refl h)
-
-  pub residue-no-digit : residue b ≡ true → digit b ≡ false
-  unfolding residue digit every
-  residue-no-digit = among-none digit b (ascii "ACDEFGHIKLMNPQRSTVWYBZXU" ++ ascii "*") refl
-
-  pub digit-no-residue : digit b ≡ true → residue b ≡ false
-  digit-no-residue h = never (residue b) (λ q. clash h (residue-no-digit q))
-
-  pub residue-no-mark : residue b ≡ true → among b (ascii "=>()_?+-:.") ≡ false
-  unfolding residue every
-  residue-no-mark = none-among residue b (ascii "=>()_?+-:.") refl
-
-  -- ---- letters or digits
-  pub alphanumeric-no-mark : alphanumeric b ≡ true → among b (ascii "_.():") ≡ false
-  unfolding alphanumeric letter digit every
-  alphanumeric-no-mark = none-among alphanumeric b (ascii "_.():") refl
 
   -- ---- no byte of 128 or above
   pub digit-ascii : digit b ≡ true → b < 128

@@ -1,8 +1,10 @@
 -- The numbers of the class table, and its rule: a byte's number is one of a class's numbers exactly where the byte is of the class.
-use Prim.Native.Nat.{ℕ}
+use Prim.Native.Nat.{ℕ, _<_}
 use mathlib.Core.Path.{_≡_}
-use mathlib.Core.Bool.{Bool, _&&_, _||_}
+use mathlib.Core.Bool.{Bool, _&&_}
+use mathlib.Core.List.{List}
 use lib.Dec.{leb}
+use lib.ListN.{getD}
 use Rattle.alphabet.specs.Classes.{member}
 use Rattle.alphabet.specs.declared.Class.{Class}
 use Rattle.alphabet.specs.declared.Class.the-variants.{Digit, Letter, Alphanumeric, Nucleotide, Residue}
@@ -10,14 +12,28 @@ use Rattle.alphabet.specs.declared.Class.the-variants.{Digit, Letter, Al
 unfoldable pub within : ℕ → ℕ → ℕ → Bool
 within low high k = leb low k && leb k high
 
--- the numbers of a class
+-- the numbers of a class are a range
+unfoldable pub lowest : Class → ℕ
+lowest Digit = 10
+lowest Letter = 2
+lowest Alphanumeric = 2
+lowest Nucleotide = 3
+lowest Residue = 1
+
+unfoldable pub highest : Class → ℕ
+highest Digit = 10
+highest Letter = 9
+highest Alphanumeric = 10
+highest Nucleotide = 8
+highest Residue = 5
+
 unfoldable pub numbered : Class → ℕ → Bool
-numbered Digit k = within 1 1 k
-numbered Letter k = within 3 11 k
-numbered Alphanumeric k = within 1 1 k || within 3 11 k
-numbered Nucleotide k = within 3 5 k || within 8 10 k
-numbered Residue k = within 2 6 k
+numbered class k = within (lowest class) (highest class) k
 
 -- k is the number of b
 pub record Cell (b k : ℕ) : Type 0 where
   pub rule : (class : Class) → numbered class k ≡ member class b
+
+-- each byte's number stands at its place
+pub record IsTable (ks : List ℕ) : Type 0 where
+  pub cell : (b : ℕ) → b < 256 → Cell b (getD ks b 0)

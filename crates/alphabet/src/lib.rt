@@ -2,11 +2,11 @@
 ghost use mathlib.Core.Path.{_≡_};
 ghost use Rattle.texts.specs.Runs.{run};
 ghost use Rattle.alphabet.specs.Classes.{member};
-ghost use Rattle.alphabet.specs.Cells.{Cell, within};
+ghost use Rattle.alphabet.specs.Cells.{IsTable, within, lowest as lowestOf, highest as highestOf};
 
-// 0 no letter, digit or `*`; 1 a digit; 2 `*`;
-// 3 an upper-case nucleotide letter but T and U; 4 T; 5 U; 6 another residue letter; 7 J and O;
-// 8 a lower-case nucleotide letter but t and u; 9 t; 10 u; 11 another lower-case letter.
+// 0 no letter, digit or `*`; 1 `*`; 2 a residue letter that is no nucleotide letter;
+// 3 U; 4 another upper-case nucleotide letter but T; 5 T; 6 t; 7 another lower-case nucleotide letter but u; 8 u;
+// 9 another letter; 10 a digit. So the numbers of each class are a range.
 const CLASS: [u8; 256] = [
     0,
     0,
@@ -50,87 +50,87 @@ const CLASS: [u8; 256] = [
     0,
     0,
     0,
+    1,
+    0,
+    0,
+    0,
+    0,
+    0,
+    10,
+    10,
+    10,
+    10,
+    10,
+    10,
+    10,
+    10,
+    10,
+    10,
+    0,
+    0,
+    0,
+    0,
+    0,
+    0,
+    0,
+    4,
+    4,
+    4,
+    4,
+    2,
+    2,
+    4,
+    4,
+    2,
+    9,
+    4,
+    2,
+    4,
+    4,
+    9,
+    2,
+    2,
+    4,
+    4,
+    5,
+    3,
+    4,
+    4,
+    2,
+    4,
     2,
     0,
     0,
     0,
     0,
     0,
-    1,
-    1,
-    1,
-    1,
-    1,
-    1,
-    1,
-    1,
-    1,
-    1,
     0,
-    0,
-    0,
-    0,
-    0,
-    0,
-    0,
-    3,
-    3,
-    3,
-    3,
-    6,
-    6,
-    3,
-    3,
-    6,
     7,
-    3,
-    6,
-    3,
-    3,
     7,
-    6,
-    6,
-    3,
-    3,
-    4,
-    5,
-    3,
-    3,
-    6,
-    3,
-    6,
-    0,
-    0,
-    0,
-    0,
-    0,
-    0,
-    8,
-    8,
-    8,
-    8,
-    11,
-    11,
-    8,
-    8,
-    11,
-    11,
-    8,
-    11,
-    8,
-    8,
-    11,
-    11,
-    11,
-    8,
-    8,
+    7,
+    7,
     9,
-    10,
+    9,
+    7,
+    7,
+    9,
+    9,
+    7,
+    9,
+    7,
+    7,
+    9,
+    9,
+    9,
+    7,
+    7,
+    6,
     8,
-    8,
-    11,
-    8,
-    11,
+    7,
+    7,
+    9,
+    7,
+    9,
     0,
     0,
     0,
@@ -274,10 +274,28 @@ pub enum Class {
     Residue,
 }
 
-fn class_of(b: u8) -> u8
-    ensures { λ r. ⌜ Cell b r ⌝ }
+fn lowest(class: Class) -> u8
+    ensures { λ r. ⌜ r ≡ lowestOf class ⌝ }
 {
-    CLASS[b as usize]
+    match class {
+        Class::Digit => 10,
+        Class::Letter => 2,
+        Class::Alphanumeric => 2,
+        Class::Nucleotide => 3,
+        Class::Residue => 1,
+    }
+}
+
+fn highest(class: Class) -> u8
+    ensures { λ r. ⌜ r ≡ highestOf class ⌝ }
+{
+    match class {
+        Class::Digit => 10,
+        Class::Letter => 9,
+        Class::Alphanumeric => 10,
+        Class::Nucleotide => 8,
+        Class::Residue => 5,
+    }
 }
 
 fn within(low: u8, high: u8, cell: u8) -> bool
@@ -289,25 +307,27 @@ fn within(low: u8, high: u8, cell: u8) -> bool
     false
 }
 
-pub fn is_in(class: Class, b: u8) -> bool
-    ensures { λ r. ⌜ r ≡ member class b ⌝ }
+// The table is written out where it is made: it is made once for a text, and lent.
+pub fn classes() -> [u8; 256]
+    ensures { λ r. ⌜ IsTable r ⌝ }
 {
-    let cell = class_of(b);
-    match class {
-        Class::Digit => within(1, 1, cell),
-        Class::Letter => within(3, 11, cell),
-        Class::Alphanumeric => within(1, 1, cell) || within(3, 11, cell),
-        Class::Nucleotide => within(3, 5, cell) || within(8, 10, cell),
-        Class::Residue => within(2, 6, cell),
-    }
+    CLASS
 }
 
-pub fn run_of(class: Class, s: &[u8]) -> usize
+pub fn is_in(table: &[u8; 256], class: Class, b: u8) -> bool
+    requires { ⌜ IsTable (now table) ⌝ }
+    ensures { λ r. ⌜ r ≡ member class b ⌝ }
+{
+    within(lowest(class), highest(class), table[b as usize])
+}
+
+pub fn run_of(table: &[u8; 256], class: Class, s: &[u8]) -> usize
+    requires { ⌜ IsTable (now table) ⌝ }
     ensures { λ r. ⌜ r ≡ run (member class) (now (s .entry)) ⌝ }
 {
     let mut i: usize = 0;
     while i < s.len() {
-        if !is_in(class, s[i]) {
+        if !is_in(table, class, s[i]) {
             return i;
         }
         i += 1;

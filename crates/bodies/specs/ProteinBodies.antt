@@ -1,22 +1,17 @@
 -- p: the texts without location, tried as a whole; else a location and an edit, or both in one pair of brackets.
-use Prim.Native.Nat.{ℕ, _+_}
-use Prim.Native.Char.{code}
-use mathlib.Core.Path.{_≡_, refl, sym, ap, _∙_}
-use mathlib.Core.List.{List, [], _∷_, _++_, append-assoc, append-nil}
+use Prim.Native.Nat.{ℕ}
+use mathlib.Core.List.{List, [], _∷_}
 use mathlib.Core.Option.{Option, none, some}
-use mathlib.Core.Bool.{Bool, true, false, cond}
+use mathlib.Core.Bool.{cond}
 use lib.Dec.{eqb}
 use lib.ListN.{length, drop}
-use lib.Seq.{drop-append-seam}
 use Rattle.texts.specs.Ascii.{ascii}
-use Rattle.texts.specs.Tests.{none-some, clash, never}
-use Rattle.texts.specs.Words.{starts, starts-split, same, same-true, same-refl}
+use Rattle.texts.specs.Words.{starts, same}
 use Rattle.record.specs.declared.variant.Kind.the-variants.{Prot}
-use Rattle.grammar.specs.Shapes.{Mu, Mu.certain, Mu.uncertain, Both, Both.both, printMu, printBoth}
-use Rattle.grammar.specs.ProteinEdits.{ProteinEdit, printProteinEdit, WfProteinEdit}
-use Rattle.grammar.specs.Bodies.{Ends, printEnds, WfEnds, printLocation, WfLocation, ProteinBody, ProteinBody.met1, ProteinBody.bracketedMet1, ProteinBody.noProteinUncertain, ProteinBody.noProtein, ProteinBody.noChangeUncertain, ProteinBody.noChange, ProteinBody.unknown, ProteinBody.change, ProteinBody.bracketed, printProteinBody, WfProteinBody, NotMet1}
+use Rattle.grammar.specs.Shapes.{Mu, Mu.certain, Mu.uncertain, Both.both}
+use Rattle.grammar.specs.ProteinEdits.{ProteinEdit, printProteinEdit}
+use Rattle.grammar.specs.Bodies.{Ends, printEnds, ProteinBody, ProteinBody.met1, ProteinBody.bracketedMet1, ProteinBody.noProteinUncertain, ProteinBody.noProtein, ProteinBody.noChangeUncertain, ProteinBody.noChange, ProteinBody.unknown, ProteinBody.change, ProteinBody.bracketed, printProteinBody}
 use Rattle.lang.specs.Choice.{orNext}
-use Rattle.lang.specs.Lang.{Front, Lang, rest-is}
 use Rattle.lang.specs.Canon.{mapO}
 use Rattle.location.specs.Languages.{endsLang}
 use Rattle.protein_edits.specs.Instance.{proteinEditLang, muProteinEditLang}

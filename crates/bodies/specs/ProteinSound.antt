@@ -4,7 +4,7 @@ use Prim.Native.Char.{code}
 use mathlib.Core.Path.{_≡_, refl, sym, ap, _∙_}
 use mathlib.Core.List.{List, [], _∷_, _++_, append-assoc, append-nil}
 use mathlib.Core.Option.{Option, none, some}
-use mathlib.Core.Bool.{Bool, true, false, cond, not}
+use mathlib.Core.Bool.{Bool, true, false, cond}
 use lib.Dec.{eqb}
 use lib.ListN.{length, drop}
 use lib.Seq.{drop-append-seam}
@@ -16,13 +16,13 @@ use Rattle.texts.specs.Words.{starts, starts-split, same, same-true, same-refl}
 use Rattle.alphabet.specs.Letters.{among, digit, residue}
 use Rattle.alphabet.specs.Apart.{among-none}
 use Rattle.record.specs.declared.variant.Kind.the-variants.{Prot}
-use Rattle.grammar.specs.Shapes.{Mu, Mu.certain, Mu.uncertain, Both, Both.both, printMu, WfMu}
+use Rattle.grammar.specs.Shapes.{Mu, Mu.certain, Mu.uncertain, Both.both, printMu, WfMu}
 use Rattle.grammar.specs.ProteinEdits.{ProteinEdit, printProteinEdit, WfProteinEdit}
-use Rattle.grammar.specs.Bodies.{Ends, printEnds, WfEnds, printLocation, WfLocation, ProteinBody, ProteinBody.met1, ProteinBody.bracketedMet1, ProteinBody.noProteinUncertain, ProteinBody.noProtein, ProteinBody.noChangeUncertain, ProteinBody.noChange, ProteinBody.unknown, ProteinBody.change, ProteinBody.bracketed, printProteinBody, WfProteinBody, NotMet1}
+use Rattle.grammar.specs.Bodies.{Ends, printEnds, WfEnds, WfLocation, ProteinBody, ProteinBody.met1, ProteinBody.bracketedMet1, ProteinBody.noProteinUncertain, ProteinBody.noProtein, ProteinBody.noChangeUncertain, ProteinBody.noChange, ProteinBody.unknown, ProteinBody.change, ProteinBody.bracketed, printProteinBody, WfProteinBody, NotMet1}
 use Rattle.lang.specs.Choice.{orNext}
-use Rattle.lang.specs.Lang.{Front, Lang, rest-is}
+use Rattle.lang.specs.Lang.{Front, rest-is}
 use Rattle.lang.specs.IntervalLang.{StopInterval, parseInterval}
-use Rattle.lang.specs.Canon.{mapO, map-some}
+use Rattle.lang.specs.Canon.{map-some}
 use Rattle.lang.specs.Whole.{nothing-behind}
 use Rattle.residue.specs.Rows.{rows}
 use Rattle.residue.specs.Residues.{oneOf, isThree, isOne}

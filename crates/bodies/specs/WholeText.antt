@@ -1,16 +1,16 @@
 -- The whole text: header, kind, body. The parser finds its tree, and there is at most one.
 use Prim.Native.Nat.{ℕ}
 use mathlib.Core.Path.{_≡_, refl, sym, ap, _∙_}
-use mathlib.Core.List.{List, [], _∷_, _++_, append-assoc, append-nil}
+use mathlib.Core.List.{List, _++_, append-assoc}
 use mathlib.Core.Option.{Option, none, some}
 use mathlib.Core.Bool.{Bool}
 use lib.ListN.{length, drop}
 use lib.Seq.{drop-append-seam}
 use Rattle.texts.specs.Tests.{none-some}
 use Rattle.record.specs.declared.variant.Kind.{Kind}
-use Rattle.grammar.specs.Header.{Header, printHeader, WfHeader, printKind}
+use Rattle.grammar.specs.Header.{Header, printHeader, printKind}
 use Rattle.grammar.specs.Shapes.{Both, Both.both}
-use Rattle.grammar.specs.Bodies.{Body, printBody, WfBody}
+use Rattle.grammar.specs.Bodies.{printBody}
 use Rattle.grammar.specs.Texts.{Text, Text.text, print, Wf}
 use Rattle.lang.specs.Lang.{rest-is}
 use Rattle.lang.specs.Canon.{mapO, map-some}

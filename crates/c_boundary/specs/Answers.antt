@@ -8,15 +8,8 @@ use Rattle.promise.specs.Outcome.{Outcome, Outcome.given, Outcome.refused}
 use Rattle.promise.specs.Reading.{Reads}
 use Rattle.promise.specs.Writing.{Writes}
 use Rattle.promise.specs.Width.{Measures}
-use Rattle.c_boundary.specs.declared.Answer.{Answer}
-
--- on a refusal the length or width is 0
-abbrev pub bareAnswer : ℕ → ℕ → Answer
-bareAnswer n place = record { number = n; place = place; value = 0 }
-
-abbrev pub numbered : Outcome ℕ → Answer
-numbered (given n) = record { number = 0; place = 0; value = n }
-numbered (refused n place) = bareAnswer n place
+use Rattle.c_answer.specs.declared.Answer.{Answer}
+use Rattle.c_answer.specs.Numbered.{bareAnswer, numbered}
 
 pub data Checks (t : List ℕ) : Answer → Type 0 where
   unread : (n place : ℕ) → Reads allLetters t (refused n place) → Checks t (bareAnswer n place)

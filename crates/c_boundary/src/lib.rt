@@ -1,64 +1,10 @@
-// For C: operations on a text, in numbers and byte slices. include/saltwhistle.h says the same to a C programmer.
+// For C: operations on a text, in numbers and byte slices. c/saltwhistle.h says the same to a C programmer.
+use c_answer::Answer;
 use record::answers::ReadAnswer;
-use record::answers::WidthAnswer;
-use record::answers::WriteAnswer;
-ghost use mathlib.Core.Path.{_≡_};
 ghost use Rattle.grammar.specs.Texts.{allLetters};
-ghost use Rattle.promise.specs.Outcome.{writeOutcome, widthOutcome};
 ghost use Rattle.promise.specs.Writing.{ToWrite};
 ghost use Rattle.promise.specs.NoRef.{NoRefText};
-ghost use Rattle.c_boundary.specs.Answers.{bareAnswer, numbered, Checks, Rewrites, Gauges};
-
-// Document 01's number, 0 where the text was accepted; the place; and the length or width, 0 where it was refused.
-#[repr(C)]
-pub struct Answer {
-    pub number: u64,
-    pub place: u64,
-    pub value: u64,
-}
-
-// No length and no width.
-fn bare(number: u64, place: u64) -> Answer
-    ensures { λ r. ⌜ r ≡ bareAnswer number place ⌝ }
-{
-    Answer {
-        number,
-        place,
-        value: 0,
-    }
-}
-
-fn of_write(a: WriteAnswer) -> Answer
-    ensures { λ r. ⌜ r ≡ numbered (writeOutcome a) ⌝ }
-{
-    match a {
-        WriteAnswer::Written(n) => Answer {
-            number: 0,
-            place: 0,
-            value: n as u64,
-        },
-        WriteAnswer::TooLong => bare(1, 0),
-        WriteAnswer::BadSpan => bare(4, 0),
-        WriteAnswer::NoText => bare(5, 0),
-        WriteAnswer::NoRoom => bare(6, 0),
-    }
-}
-
-fn of_width(a: WidthAnswer) -> Answer
-    ensures { λ r. ⌜ r ≡ numbered (widthOutcome a) ⌝ }
-{
-    match a {
-        WidthAnswer::Width(n) => Answer {
-            number: 0,
-            place: 0,
-            value: n,
-        },
-        WidthAnswer::TooLong => bare(1, 0),
-        WidthAnswer::BadSpan => bare(4, 0),
-        WidthAnswer::NoText => bare(5, 0),
-        WidthAnswer::NoWidth => bare(7, 0),
-    }
-}
+ghost use Rattle.c_boundary.specs.Answers.{Checks, Rewrites, Gauges};
 
 // Whether the text is one of the grammar whose numbers fit.
 #[no_mangle]
@@ -66,10 +12,10 @@ pub extern "C" fn saltwhistle_check(text: &[u8]) -> Answer
     ensures { λ r. ⌜ Checks (now (text .entry)) r ⌝ }
 {
     match reader::read(text) {
-        ReadAnswer::Accepted(_) => bare(0, 0),
-        ReadAnswer::TooLong => bare(1, 0),
-        ReadAnswer::NotInGrammar => bare(2, 0),
-        ReadAnswer::DoesNotFit(place) => bare(3, place as u64),
+        ReadAnswer::Accepted(_) => c_answer::bare(0, 0),
+        ReadAnswer::TooLong => c_answer::bare(1, 0),
+        ReadAnswer::NotInGrammar => c_answer::bare(2, 0),
+        ReadAnswer::DoesNotFit(place) => c_answer::bare(3, place as u64),
     }
 }
 
@@ -79,10 +25,10 @@ pub extern "C" fn saltwhistle_shortest(text: &[u8], output: &mut [u8]) -> Answer
     ensures { λ r. ⌜ Rewrites (ToWrite allLetters) (now (text .entry)) (now (output .entry)) r (now (output .exit)) ⌝ }
 {
     match reader::read(text) {
-        ReadAnswer::Accepted(v) => of_write(writer::write(text, v, output)),
-        ReadAnswer::TooLong => bare(1, 0),
-        ReadAnswer::NotInGrammar => bare(2, 0),
-        ReadAnswer::DoesNotFit(place) => bare(3, place as u64),
+        ReadAnswer::Accepted(v) => c_answer::of_write(writer::write(text, v, output)),
+        ReadAnswer::TooLong => c_answer::bare(1, 0),
+        ReadAnswer::NotInGrammar => c_answer::bare(2, 0),
+        ReadAnswer::DoesNotFit(place) => c_answer::bare(3, place as u64),
     }
 }
 
@@ -92,10 +38,10 @@ pub extern "C" fn saltwhistle_noref(text: &[u8], output: &mut [u8]) -> Answer
     ensures { λ r. ⌜ Rewrites (NoRefText allLetters) (now (text .entry)) (now (output .entry)) r (now (output .exit)) ⌝ }
 {
     match reader::read(text) {
-        ReadAnswer::Accepted(v) => of_write(writer::write_noref(text, v, output)),
-        ReadAnswer::TooLong => bare(1, 0),
-        ReadAnswer::NotInGrammar => bare(2, 0),
-        ReadAnswer::DoesNotFit(place) => bare(3, place as u64),
+        ReadAnswer::Accepted(v) => c_answer::of_write(writer::write_noref(text, v, output)),
+        ReadAnswer::TooLong => c_answer::bare(1, 0),
+        ReadAnswer::NotInGrammar => c_answer::bare(2, 0),
+        ReadAnswer::DoesNotFit(place) => c_answer::bare(3, place as u64),
     }
 }
 
@@ -105,9 +51,9 @@ pub extern "C" fn saltwhistle_width(text: &[u8]) -> Answer
     ensures { λ r. ⌜ Gauges (now (text .entry)) r ⌝ }
 {
     match reader::read(text) {
-        ReadAnswer::Accepted(v) => of_width(measure::width(text, v)),
-        ReadAnswer::TooLong => bare(1, 0),
-        ReadAnswer::NotInGrammar => bare(2, 0),
-        ReadAnswer::DoesNotFit(place) => bare(3, place as u64),
+        ReadAnswer::Accepted(v) => c_answer::of_width(measure::width(text, v)),
+        ReadAnswer::TooLong => c_answer::bare(1, 0),
+        ReadAnswer::NotInGrammar => c_answer::bare(2, 0),
+        ReadAnswer::DoesNotFit(place) => c_answer::bare(3, place as u64),
     }
 }

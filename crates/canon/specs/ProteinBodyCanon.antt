@@ -30,7 +30,7 @@ use Rattle.grammar.specs.Meaning.{number, meaningProt, meaningEnds, meaningProt
 use Rattle.grammar.specs.Numbers.{misfit, residualNumbers, endsNumbers, proteinEditNumbers, proteinBodyNumbers}
 use Rattle.grammar.specs.NumberLaws.{one-fits, misfit-both, both-misfit}
 use Rattle.lang.specs.Lang.{Lang}
-use Rattle.lang.specs.Canon.{Canon, Right, Covered, bothO, both-some}
+use Rattle.lang.specs.Canon.{Right, Covered, bothO, both-some}
 use Rattle.location.specs.Equal.{eqPosition, eq-true}
 use Rattle.location.specs.Canonical.{endsCanon}
 use Rattle.location.specs.Fits.{ends-fits, fits-ends}
@@ -428,6 +428,3 @@ covers-protein (change (both (uncertain a) (uncertain b))) w f =
 covers-protein (bracketed (both a b)) w f =
     let p = body-parts 0 (bracketed (both a b)) f in
     covers-joined a b (w .0 .0) (w .0 .1) (p .0) (p .1) (uncertain (meaningEnds Prot a)) (uncertain (meaningProteinEdit b)) refl refl (w .1)
-
-abbrev pub proteinBodyCanon : Canon proteinBodyLang
-proteinBodyCanon = record { Value = ProteinBodyV; meaning = meaningProteinBody; Fits = FitsProteinBody; canon = canonProteinBody; right = right-protein; covers = covers-protein }

@@ -2,7 +2,7 @@
 use Prim.Native.Nat.{ℕ}
 use mathlib.Core.Path.{_≡_, refl}
 use mathlib.Core.List.{List, _++_}
-use mathlib.Core.Option.{Option, some}
+use mathlib.Core.Option.{some}
 use mathlib.Core.Bool.{Bool, true, false}
 use Rattle.record.specs.declared.variant.Kind.{Kind}
 use Rattle.record.specs.declared.variant.Kind.the-variants.{Cds, Genome, Mt, Tx, Prot, Rna}
@@ -18,7 +18,6 @@ use Rattle.na_edits.specs.Canonical.{muNaEditCanon}
 use Rattle.headers.specs.Canonical.{canonHeader}
 use Rattle.promise.specs.Writing.{ToWrite}
 use Rattle.promise.specs.NoRef.{noRefEdit, NaNoRef, NoRefText}
-use Rattle.promise.specs.Unique.{one-shortest, one-no-ref}
 use Rattle.canon.specs.NaBodyCanon.{naBodyCanon}
 use Rattle.canon.specs.NoRefCanon.{header-shortest, location-shortest}
 use Rattle.canon.specs.TextCanon.{canonBody, text-some}
@@ -41,10 +40,6 @@ module _ (letters : Kind → ℕ → Bool) where
   abbrev pub Wanted : Bool → Value → List ℕ → Type 0
   Wanted true = ToWrite letters
   Wanted false = NoRefText letters
-
-  pub one-wanted : (isShortest : Bool) (v : Value) (t u : List ℕ) → Wanted isShortest v t → Wanted isShortest v u → t ≡ u
-  one-wanted true = one-shortest letters
-  one-wanted false = one-no-ref letters
 
   module _ (al : (k : Kind) → Alphabet (letters k)) (h : HeaderV) (head : Header) (found : canonHeader h ≡ some head) where
     no-ref-words : (k : Kind) (v : NaBodyV k) (t : NaBody k) → naBodyCanon (letters k) (al k) k .canon v ≡ some t → NaNoRef h k v (printHeader head ++ (printKind k ++ naWords false k v t))

@@ -9,7 +9,7 @@ use lib.Dec.{leb·zero}
 use Rattle.record.specs.declared.spans.Span.{Span}
 use Rattle.grammar.specs.Spans.{inside, part}
 use Rattle.emit.specs.Words.{wordText}
-use Rattle.emit.specs.Texts.{markText, amountText, rowText, endText, placeText, noSpan, noRow, noEnd}
+use Rattle.emit.specs.Texts.{markText, amountText, rowText, endText, placeText, noSpan, noEnd}
 use Rattle.emit.specs.declared.Row.{Row}
 use Rattle.emit.specs.declared.End.{End}
 use Rattle.emit.specs.declared.Place.{Place}
@@ -42,10 +42,6 @@ module _ (s : List ℕ) where
   pub no-part : part s noSpan ≡ []
   unfolding part
   no-part = rw (leb·zero (length s))
-
-  pub no-row : rowText s noRow ≡ []
-  unfolding rowText
-  no-row = rw no-part
 
   pub no-end : endText s noEnd ≡ []
   unfolding endText

@@ -8,7 +8,6 @@ use Rattle.record.specs.declared.variant.Kind.the-variants.{Cds, Genome, Mt, Tx
 use Rattle.number.specs.Digits.{dec}
 use Rattle.grammar.specs.Spans.{part}
 use Rattle.emit.specs.Words.{wordText}
-use Rattle.emit.specs.declared.Word.the-variants.{Empty}
 use Rattle.emit.specs.declared.Mark.{Mark}
 use Rattle.emit.specs.declared.Mark.the-variants.{Nothing, Byte}
 use Rattle.emit.specs.declared.Amount.{Amount}
@@ -48,9 +47,6 @@ module _ (s : List ℕ) where
 -- ---- nothing to write
 abbrev pub noSpan : Span
 noSpan = record { start = 0; end = 0 }
-
-abbrev pub noRow : Row
-noRow = record { first = noSpan; word = Empty; second = noSpan; sign = Nothing; amount = Absent; joint = Empty; last = noSpan }
 
 abbrev pub noEnd : End
 noEnd = record { residue = noSpan; mark = Nothing; number = Absent; sign = Nothing; offset = Absent }

@@ -1,7 +1,7 @@
 -- Location and edit of the nucleotide kinds, and document 01, "Protein bodies (p)".
 use Prim.Native.Nat.{ℕ}
 use mathlib.Core.Path.{_≡_}
-use mathlib.Core.List.{List, [], _++_}
+use mathlib.Core.List.{List, _++_}
 use mathlib.Core.Bool.{Bool}
 use Rattle.texts.specs.Ascii.{ascii}
 use Rattle.record.specs.declared.variant.Kind.{Kind}

@@ -1,27 +1,26 @@
 -- The content of a tree's record is the tree's meaning, wherever its text stands; and its spans lie in the source.
 use Prim.Native.Nat.{ℕ, _+_}
-use mathlib.Core.Path.{_≡_, refl, sym, ap, _∙_}
-use mathlib.Core.List.{List, [], _∷_, _++_, append-nil}
+use mathlib.Core.Path.{_≡_, refl, ap, _∙_}
+use mathlib.Core.List.{List, [], _∷_, _++_}
 use mathlib.Core.Option.{Option, none, some}
-use mathlib.Core.Bool.{Bool, true, _&&_}
 use lib.ListN.{length}
 use Rattle.texts.specs.Ascii.{ascii}
 use Rattle.number.specs.declared.Sign.the-variants.{Plain}
 use Rattle.record.specs.declared.variant.Kind.{Kind}
 use Rattle.record.specs.declared.variant.Kind.the-variants.{Cds, Genome, Mt, Tx, Prot, Rna}
-use Rattle.grammar.specs.Header.{Header, Header.header, Accession, printAccession, printGene, printHeader, printKind}
+use Rattle.grammar.specs.Header.{Header, Header.header, printAccession, printGene, printHeader, printKind}
 use Rattle.grammar.specs.Positions.{Residual, Residual.residual, Position, printPosition}
-use Rattle.grammar.specs.Shapes.{Interval, Interval.one, Interval.two, Mu, Mu.certain, Mu.uncertain, Both, Both.both, printMu}
+use Rattle.grammar.specs.Shapes.{Interval.one, Interval.two, Mu, Mu.certain, Mu.uncertain, Both, Both.both, printMu}
 use Rattle.grammar.specs.NucleotideEdits.{NaEdit, NaEdit.equal, NaEdit.swap, NaEdit.delIns, NaEdit.delNumIns, NaEdit.delNum, NaEdit.del, NaEdit.ins, NaEdit.dup, NaEdit.invNum, NaEdit.inv, printNaEdit}
 use Rattle.grammar.specs.Optional.{printOptional}
 use Rattle.grammar.specs.ProteinEdits as P
-use Rattle.grammar.specs.ProteinEdits.{ProteinEdit, Stop, Stop.stop, ExtEnd, ExtEnd.nothing, ExtEnd.later, ExtEnd.earlier, printTerminal, printLength, printFsEnd, printExtEnd, printProteinEdit}
-use Rattle.grammar.specs.Bodies.{Ends, Location, printEnds, printLocation, NaBody, ProteinBody, ProteinBody.met1, ProteinBody.bracketedMet1, ProteinBody.noProteinUncertain, ProteinBody.noProtein, ProteinBody.noChangeUncertain, ProteinBody.noChange, ProteinBody.unknown, ProteinBody.change, ProteinBody.bracketed, Body, printBody, printProteinBody}
+use Rattle.grammar.specs.ProteinEdits.{ProteinEdit, Stop, Stop.stop, ExtEnd, ExtEnd.nothing, ExtEnd.later, ExtEnd.earlier, printTerminal, printFsEnd, printExtEnd, printProteinEdit}
+use Rattle.grammar.specs.Bodies.{Ends, Location, printEnds, printLocation, ProteinBody, ProteinBody.met1, ProteinBody.bracketedMet1, ProteinBody.noProteinUncertain, ProteinBody.noProtein, ProteinBody.noChangeUncertain, ProteinBody.noChange, ProteinBody.unknown, ProteinBody.change, ProteinBody.bracketed, Body, printBody, printProteinBody}
 use Rattle.grammar.specs.Texts.{Text, Text.text, print}
-use Rattle.grammar.specs.Values.{ProtPosV.protPosV, NaEditV.refAlt, NaEditV.numAlt, NaEditV.delRef, NaEditV.insV, NaEditV.dupV, NaEditV.invRef, ProteinEditV.fsV, ProteinEditV.extV, ProteinEditV.substV, ProteinEditV.delInsV, ProteinEditV.insPV, ProteinBodyV.ordinary, HeaderV.headerV, Value.value}
-use Rattle.grammar.specs.Meaning.{number, lengthOf, meaningPosition, meaningEnds, mapMu, meaningNaEdit, meaningFs, meaningExt, meaningProteinEdit, meaningProteinBody, meaningBody, meaningHeader, meaning}
+use Rattle.grammar.specs.Values.{ProtPosV.protPosV, NaEditV.refAlt, NaEditV.numAlt, NaEditV.delRef, NaEditV.insV, NaEditV.dupV, NaEditV.invRef, ProteinEditV.substV, ProteinEditV.delInsV, ProteinEditV.insPV, Value.value}
+use Rattle.grammar.specs.Meaning.{number, meaningPosition, meaningEnds, mapMu, meaningNaEdit, meaningFs, meaningExt, meaningProteinEdit, meaningProteinBody, meaningBody, meaningHeader, meaning}
 use Rattle.grammar.specs.Spans.{part, optionalPart}
-use Rattle.grammar.specs.Records.{span, spanOf, partOf, protAt, positionAt, interval, intervalAt, locationAt, certainly, uncertainly, naEditAt, muNaEditAt, fsAt, extAt, proteinEditAt, muProteinEditAt, proteinBodyAt, bodyAt, headerAt, recordAt}
+use Rattle.grammar.specs.Records.{span, partOf, protAt, positionAt, interval, intervalAt, locationAt, certainly, uncertainly, naEditAt, muNaEditAt, fsAt, extAt, proteinEditAt, muProteinEditAt, proteinBodyAt, bodyAt, headerAt, recordAt}
 use Rattle.grammar.specs.Contents.{positionContent, intervalContent, locationContent, naEditContent, muNaEditContent, proteinEditContent, muProteinEditContent, protBodyContent, bodyContent, headerContent, content}
 use Rattle.grammar.specs.Standing.{Stands, left, right, inner, stands-part, stands-whole}
 

@@ -2,7 +2,6 @@
 use Prim.Native.Nat.{ℕ}
 use mathlib.Core.List.{List}
 use mathlib.Core.Bool.{Bool, true, _&&_}
-use Rattle.record.specs.declared.spans.Span.{Span}
 use Rattle.record.specs.declared.variant.Kind.{Kind}
 use Rattle.record.specs.declared.variant.Kind.the-variants.{Cds, Genome, Mt, Tx, Prot, Rna}
 use Rattle.record.specs.declared.positions.ProtPos.{ProtPos}
@@ -27,7 +26,7 @@ use Rattle.record.specs.declared.variant.Header.{Header}
 use Rattle.record.specs.declared.variant.Body.{Body}
 use Rattle.record.specs.declared.variant.Body.the-variants as Bo
 use Rattle.record.specs.declared.variant.HgvsVariant.{HgvsVariant}
-use Rattle.grammar.specs.Shapes.{Mu, Mu.certain, Mu.uncertain, Both, Both.both}
+use Rattle.grammar.specs.Shapes.{Mu, Mu.certain, Mu.uncertain, Both.both}
 use Rattle.grammar.specs.Spans.{inside, part, insideOptional, optionalPart}
 use Rattle.grammar.specs.Records.{PositionR, IntervalR, MuIntervalR}
 use Rattle.grammar.specs.Values.{ProtPosV, ProtPosV.protPosV, PositionV, EndsV, NaEditV, NaEditV.refAlt, NaEditV.numAlt, NaEditV.delRef, NaEditV.delNum, NaEditV.insV, NaEditV.dupV, NaEditV.invRef, NaEditV.invNum, ProteinEditV, ProteinEditV.fsV, ProteinEditV.extV, ProteinEditV.substV, ProteinEditV.delInsV, ProteinEditV.insPV, ProteinEditV.delV, ProteinEditV.dupPV, ProteinEditV.identV, ProteinBodyV, ProteinBodyV.ordinary, ProteinBodyV.noChangeV, ProteinBodyV.noChangeUncertainV, ProteinBodyV.noProteinV, ProteinBodyV.noProteinUncertainV, ProteinBodyV.unknownV, ProteinBodyV.initiationUncertain, HeaderV, HeaderV.headerV, Value, Value.value}

@@ -24,13 +24,13 @@ use Rattle.record.specs.declared.positions.RnaPos.{RnaPos}
 use Rattle.record.specs.declared.edits.UncertainLengthChange.{UncertainLengthChange}
 use Rattle.record.specs.declared.edits.UncertainLengthChange.the-variants.{None, Unknown, Known}
 use Rattle.grammar.specs.Header as H
-use Rattle.grammar.specs.Header.{Accession, Header, Header.header, printAccession}
+use Rattle.grammar.specs.Header.{Header, Header.header, printAccession}
 use Rattle.grammar.specs.Positions.{Mark, Mark.bare, Mark.plus, Mark.minus, Mark.star, Offset, Offset.absent, Offset.ahead, Offset.back, Based, Based.based, Genomic, Genomic.known, Genomic.unknown, Residual, Residual.residual, Position}
 use Rattle.grammar.specs.Shapes.{Interval, Interval.one, Interval.two, Mu, Mu.certain, Mu.uncertain, Both, Both.both}
 use Rattle.grammar.specs.NucleotideEdits.{NaEdit, NaEdit.equal, NaEdit.swap, NaEdit.delIns, NaEdit.delNumIns, NaEdit.delNum, NaEdit.del, NaEdit.ins, NaEdit.dup, NaEdit.invNum, NaEdit.inv}
 use Rattle.grammar.specs.ProteinEdits as P
-use Rattle.grammar.specs.ProteinEdits.{ProteinEdit, Terminal, Length, Length.counted, Length.unsaid, Stop, Stop.stop, ExtEnd, ExtEnd.nothing, ExtEnd.later, ExtEnd.earlier, printTerminal}
-use Rattle.grammar.specs.Bodies.{Ends, Location, NaBody, ProteinBody, ProteinBody.met1, ProteinBody.bracketedMet1, ProteinBody.noProteinUncertain, ProteinBody.noProtein, ProteinBody.noChangeUncertain, ProteinBody.noChange, ProteinBody.change, ProteinBody.bracketed, Body}
+use Rattle.grammar.specs.ProteinEdits.{ProteinEdit, Length, Length.counted, Length.unsaid, Stop, Stop.stop, ExtEnd, ExtEnd.nothing, ExtEnd.later, ExtEnd.earlier, printTerminal}
+use Rattle.grammar.specs.Bodies.{Ends, NaBody, ProteinBody, ProteinBody.met1, ProteinBody.bracketedMet1, ProteinBody.noProteinUncertain, ProteinBody.noProtein, ProteinBody.noChangeUncertain, ProteinBody.noChange, ProteinBody.change, ProteinBody.bracketed, Body}
 use Rattle.grammar.specs.Bodies as B
 use Rattle.grammar.specs.Texts.{Text, Text.text}
 use Rattle.grammar.specs.Values.{ProtPosV, ProtPosV.protPosV, PositionV, EndsV, NaEditV, NaEditV.refAlt, NaEditV.numAlt, NaEditV.delRef, NaEditV.delNum, NaEditV.insV, NaEditV.dupV, NaEditV.invRef, NaEditV.invNum, ProteinEditV, ProteinEditV.fsV, ProteinEditV.extV, ProteinEditV.substV, ProteinEditV.delInsV, ProteinEditV.insPV, ProteinEditV.delV, ProteinEditV.dupPV, ProteinEditV.identV, NaBodyV, ProteinBodyV, ProteinBodyV.ordinary, ProteinBodyV.noChangeV, ProteinBodyV.noChangeUncertainV, ProteinBodyV.noProteinV, ProteinBodyV.noProteinUncertainV, ProteinBodyV.unknownV, ProteinBodyV.initiationUncertain, BodyV, HeaderV, HeaderV.headerV, Value, Value.value}

@@ -2,7 +2,7 @@
 use Prim.Native.Nat.{ℕ, _+_}
 use mathlib.Core.List.{List, [], _∷_, _++_}
 use mathlib.Core.Option.{Option, none, some}
-use mathlib.Core.Bool.{Bool, true, false, cond}
+use mathlib.Core.Bool.{cond}
 use lib.ListN.{length}
 use Rattle.number.specs.declared.Sign.{Sign}
 use Rattle.number.specs.declared.Sign.the-variants.{Plain, Minus, Negated}
@@ -11,13 +11,13 @@ use Rattle.number.specs.Reading.{fits}
 use Rattle.record.specs.declared.variant.Kind.{Kind}
 use Rattle.record.specs.declared.variant.Kind.the-variants.{Cds, Genome, Mt, Tx, Prot, Rna}
 use Rattle.grammar.specs.Header.{printHeader, printKind}
-use Rattle.grammar.specs.Positions.{Mark, Offset, Offset.absent, Offset.ahead, Offset.back, Based, Based.based, Genomic, Genomic.known, Genomic.unknown, Residual, Residual.residual, Position, printMark, printPosition}
-use Rattle.grammar.specs.Shapes.{Interval, Interval.one, Interval.two, Mu, Mu.certain, Mu.uncertain, Both, Both.both}
+use Rattle.grammar.specs.Positions.{Offset, Offset.absent, Offset.ahead, Offset.back, Based, Based.based, Genomic, Genomic.known, Genomic.unknown, Residual, Residual.residual, Position, printMark, printPosition}
+use Rattle.grammar.specs.Shapes.{Interval.one, Interval.two, Mu, Mu.certain, Mu.uncertain, Both.both}
 use Rattle.grammar.specs.NucleotideEdits.{NaEdit, NaEdit.equal, NaEdit.swap, NaEdit.delIns, NaEdit.delNumIns, NaEdit.delNum, NaEdit.del, NaEdit.ins, NaEdit.dup, NaEdit.invNum, NaEdit.inv}
 use Rattle.grammar.specs.Optional.{printOptional}
 use Rattle.grammar.specs.ProteinEdits as P
 use Rattle.grammar.specs.ProteinEdits.{ProteinEdit, Length, Length.counted, Length.unsaid, Stop, Stop.stop, ExtEnd, ExtEnd.nothing, ExtEnd.later, ExtEnd.earlier, printTerminal}
-use Rattle.grammar.specs.Bodies.{Ends, Location, printEnds, printLocation, NaBody, ProteinBody, ProteinBody.met1, ProteinBody.bracketedMet1, ProteinBody.noProteinUncertain, ProteinBody.noProtein, ProteinBody.noChangeUncertain, ProteinBody.noChange, ProteinBody.unknown, ProteinBody.change, ProteinBody.bracketed, Body}
+use Rattle.grammar.specs.Bodies.{Ends, printEnds, printLocation, NaBody, ProteinBody, ProteinBody.met1, ProteinBody.bracketedMet1, ProteinBody.noProteinUncertain, ProteinBody.noProtein, ProteinBody.noChangeUncertain, ProteinBody.noChange, ProteinBody.unknown, ProteinBody.change, ProteinBody.bracketed, Body}
 use Rattle.grammar.specs.Texts.{Text, Text.text}
 use Rattle.grammar.specs.Meaning.{signOf}
 

@@ -1,7 +1,7 @@
 -- Document 01, "Positions": one position, for each kind.
 use Prim.Native.Nat.{ℕ}
 use mathlib.Core.Path.{_≡_}
-use mathlib.Core.List.{List, [], _∷_, _++_}
+use mathlib.Core.List.{List, [], _++_}
 use mathlib.Core.Bool.{true}
 use Rattle.texts.specs.Ascii.{ascii}
 use Rattle.texts.specs.Runs.{Some}

@@ -1,8 +1,7 @@
 -- The record that a tree gives: spans where its parts stand, in a text in which the tree starts at a place.
 use Prim.Native.Nat.{ℕ, _+_}
-use mathlib.Core.List.{List, [], _∷_, _++_}
+use mathlib.Core.List.{List, []}
 use mathlib.Core.Option.{Option, none, some}
-use lib.IntN.{ℤ}
 use lib.ListN.{length}
 use Rattle.number.specs.declared.Sign.the-variants.{Plain, Negated}
 use Rattle.record.specs.declared.spans.Span.{Span}
@@ -51,12 +50,12 @@ use Rattle.record.specs.declared.variant.Body.the-variants as Bo
 use Rattle.record.specs.declared.variant.HgvsVariant.{HgvsVariant}
 use Rattle.grammar.specs.Header.{Header, Header.header, printAccession, printHeader, printKind}
 use Rattle.grammar.specs.Positions.{Residual, Residual.residual, Position, printPosition}
-use Rattle.grammar.specs.Shapes.{Interval, Interval.one, Interval.two, Mu, Mu.certain, Mu.uncertain, Both, Both.both}
+use Rattle.grammar.specs.Shapes.{Interval.one, Interval.two, Mu, Mu.certain, Mu.uncertain, Both.both}
 use Rattle.grammar.specs.NucleotideEdits.{NaEdit, NaEdit.equal, NaEdit.swap, NaEdit.delIns, NaEdit.delNumIns, NaEdit.delNum, NaEdit.del, NaEdit.ins, NaEdit.dup, NaEdit.invNum, NaEdit.inv}
 use Rattle.grammar.specs.Optional.{printOptional}
 use Rattle.grammar.specs.ProteinEdits as P
 use Rattle.grammar.specs.ProteinEdits.{ProteinEdit, Stop, Stop.stop, ExtEnd, ExtEnd.nothing, ExtEnd.later, ExtEnd.earlier, printTerminal}
-use Rattle.grammar.specs.Bodies.{Ends, Location, printEnds, printLocation, NaBody, ProteinBody, ProteinBody.met1, ProteinBody.bracketedMet1, ProteinBody.noProteinUncertain, ProteinBody.noProtein, ProteinBody.noChangeUncertain, ProteinBody.noChange, ProteinBody.unknown, ProteinBody.change, ProteinBody.bracketed, Body}
+use Rattle.grammar.specs.Bodies.{Ends, Location, printEnds, printLocation, ProteinBody, ProteinBody.met1, ProteinBody.bracketedMet1, ProteinBody.noProteinUncertain, ProteinBody.noProtein, ProteinBody.noChangeUncertain, ProteinBody.noChange, ProteinBody.unknown, ProteinBody.change, ProteinBody.bracketed, Body}
 use Rattle.grammar.specs.Texts.{Text, Text.text}
 use Rattle.grammar.specs.Meaning.{number, meaningCds, meaningGenome, meaningMt, meaningTx, meaningRna, lengthOf}
 

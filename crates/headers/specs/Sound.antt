@@ -146,7 +146,3 @@ header-end = record { accession-ends = record { no-more = refl; no-suffix = refl
 pub header-colon : (r : List ℕ) → StopHeader (ascii ":" ++ r)
 unfolding run starts alphanumeric letter digit
 header-colon r = record { accession-ends = record { no-more = refl; no-suffix = refl; no-version = refl }; no-gene = refl }
-
-pub accession-open : (r : List ℕ) → StopAccession (ascii "(" ++ r)
-unfolding run starts alphanumeric letter digit
-accession-open r = record { no-more = refl; no-suffix = refl; no-version = refl }

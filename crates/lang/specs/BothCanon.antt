@@ -1,8 +1,8 @@
 -- The canonical text of one value behind another.
 use Prim.Native.Nat.{ℕ}
-use mathlib.Core.Path.{_≡_, refl, sym, ap, _∙_}
+use mathlib.Core.Path.{_≡_}
 use mathlib.Core.List.{List, _++_}
-use mathlib.Core.Option.{Option, none, some}
+use mathlib.Core.Option.{Option, some}
 use Rattle.texts.specs.Best.{best-append}
 use Rattle.grammar.specs.Shapes.{Both, Both.both, WfBoth}
 use Rattle.grammar.specs.Meaning.{mapBoth}

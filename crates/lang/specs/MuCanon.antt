@@ -1,7 +1,6 @@
 -- The canonical text of what is certain or uncertain.
-use Prim.Native.Nat.{ℕ}
-use mathlib.Core.Path.{_≡_, refl, sym, ap, _∙_}
-use mathlib.Core.Option.{Option, none, some}
+use mathlib.Core.Path.{_≡_, ap}
+use mathlib.Core.Option.{Option, some}
 use Rattle.texts.specs.Ascii.{ascii}
 use Rattle.texts.specs.Best.{best-append, best-behind, best-refl}
 use Rattle.grammar.specs.Shapes.{Mu, Mu.certain, Mu.uncertain, WfMu}

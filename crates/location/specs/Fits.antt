@@ -59,7 +59,3 @@ location-fits k i (uncertain t) e = ends-fits k (i + 1) t e
 pub fits-location : (k : Kind) (i : ℕ) (l : Location k) → locationCanon k .Fits l → misfit (muNumbers (endsNumbers k) i l) ≡ none
 fits-location k i (certain t) f = fits-ends k i t f
 fits-location k i (uncertain t) f = fits-ends k (i + 1) t f
-
--- and so whether it fits does not depend on where it stands
-pub location-fits-anywhere : (k : Kind) (i j : ℕ) (l : Location k) → misfit (muNumbers (endsNumbers k) i l) ≡ none → misfit (muNumbers (endsNumbers k) j l) ≡ none
-location-fits-anywhere k i j l e = fits-location k j l (location-fits k i l e)

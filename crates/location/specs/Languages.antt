@@ -11,8 +11,8 @@ use Rattle.texts.specs.Ascii.{ascii}
 use Rattle.texts.specs.Tests.{and-true, never, clash}
 use Rattle.texts.specs.Runs.{every, run, run-first}
 use Rattle.texts.specs.Words.{starts, starts-other}
-use Rattle.alphabet.specs.Letters.{among, digit, nucleotide, residue}
-use Rattle.alphabet.specs.Apart.{none-among, nucleotide-no-digit, residue-no-digit}
+use Rattle.alphabet.specs.Letters.{among, digit, residue}
+use Rattle.alphabet.specs.Apart.{none-among}
 use Rattle.residue.specs.Laws.{residue-first, residue-some}
 use Rattle.record.specs.declared.variant.Kind.{Kind}
 use Rattle.record.specs.declared.variant.Kind.the-variants.{Cds, Genome, Mt, Tx, Prot, Rna}
@@ -55,10 +55,6 @@ endsLang k = interval (posLang k) may-join
 
 -- ---- what may follow an interval, and so a location
 module _ (k : Kind) where
-  pub ends-stop-nil : StopInterval (posLang k) []
-  unfolding starts
-  ends-stop-nil = record { stop = stop-nil; no-bar = refl }
-
   module _ (b : ℕ) (r : List ℕ) where
     -- a byte that is no digit, no sign and no `_`
     pub ends-stop-at : digit b ≡ false → among b (ascii "+-_") ≡ false → StopInterval (posLang k) (b ∷ r)
@@ -66,14 +62,6 @@ module _ (k : Kind) where
       stop = stop-first b r d (starts-among (ascii "+-_") (code "+") refl b r n) (starts-among (ascii "+-_") (code "-") refl b r n);
       no-bar = starts-among (ascii "+-_") (code "_") refl b r n;
     }
-
-    pub ends-stop-nucleotide : nucleotide b ≡ true → StopInterval (posLang k) (b ∷ r)
-    unfolding nucleotide every
-    ends-stop-nucleotide h = ends-stop-at (nucleotide-no-digit b h) (none-among nucleotide b (ascii "+-_") refl h)
-
-    pub ends-stop-residue : residue b ≡ true → StopInterval (posLang k) (b ∷ r)
-    unfolding residue every
-    ends-stop-residue h = ends-stop-at (residue-no-digit b h) (none-among residue b (ascii "+-_") refl h)
 
 -- ---- no position starts with a bracket, and a closing one may follow an interval
 module _ (r : List ℕ) where

@@ -1,8 +1,7 @@
 -- What measuring answers, by the tests that were made.
 use Prim.Native.Nat.{ℕ, _≤_, _<_}
-use mathlib.Core.Path.{_≡_, sym, _∙_}
+use mathlib.Core.Path.{_≡_, sym}
 use mathlib.Core.List.{List}
-use mathlib.Core.Option.{none, some}
 use mathlib.Core.Bool.{true, false}
 use lib.ListN.{length}
 use Rattle.record.specs.declared.answers.WidthAnswer.{WidthAnswer}

@@ -1,11 +1,11 @@
 -- Laws of numbers with a sign: what is worth the same, what fits, and what the machine holds.
-use Prim.Native.Nat.{ℕ, zero, suc, _≤_, _<_}
-use mathlib.Core.Path.{_≡_, refl, sym, ap, _∙_}
+use Prim.Native.Nat.{ℕ, zero, suc, _≤_}
+use mathlib.Core.Path.{_≡_, refl}
 use mathlib.Core.Bool.{Bool, true, false}
 use native.Mathlib.Omega.{arith}
 use lib.Dec.{leb}
 use lib.IntN.{ℤ, pos, negsuc, negℤ, natAbs}
-use borrow.Author.Tests.{le-leb, lt-leb, leb-true}
+use borrow.Author.Tests.{le-leb, leb-true}
 use mir.Syntax.{w32}
 use mir.Val.{SFits, toZ, ofZ}
 use mir.Facts.{toZ-ofZ}
@@ -14,32 +14,10 @@ use Rattle.number.specs.declared.Sign.{Sign}
 use Rattle.number.specs.declared.Sign.the-variants.{Plain, Minus, Negated}
 
 -- ---- what is worth the same
-neg-abs : (v : ℕ) → natAbs (negℤ (pos v)) ≡ v
-neg-abs zero = refl
-neg-abs (suc v) = refl
-
-pub signed-abs : (sign : Sign) (v : ℕ) → natAbs (signed sign v) ≡ v
-signed-abs Plain v = refl
-signed-abs Minus v = neg-abs v
-signed-abs Negated v = neg-abs v
-
-pub signed-injective : (sign : Sign) (v w : ℕ) → signed sign v ≡ signed sign w → v ≡ w
-signed-injective sign v w e = sym (signed-abs sign v) ∙ ap natAbs e ∙ signed-abs sign w
-
--- with and without a minus only 0 is worth the same
-pub plain-minus : (v w : ℕ) → signed Plain v ≡ signed Minus w → (v ≡ 0) × (w ≡ 0)
-plain-minus v zero e = (cc, refl)
-plain-minus v (suc w) e = absurd (let z : _≡_ {A = ℕ} 0 1 = cc in omega arith)
-
 -- the sign with which a number is written
 unfoldable pub signOf : ℤ → Sign
 signOf (pos v) = Plain
 signOf (negsuc v) = Minus
-
-pub signed-sign : (z : ℤ) → signed (signOf z) (natAbs z) ≡ z
-unfolding signOf
-signed-sign (pos v) = refl
-signed-sign (negsuc v) = refl
 
 -- ---- what fits: a signed number exactly where an i32 holds it
 minus-fits : (v : ℕ) → v ≤ 2147483648 → SFits w32 (negℤ (pos v))
@@ -59,10 +37,6 @@ most-bound Negated v h = omega arith
 pub plain-most : (v : ℕ) → SFits w32 (signed Plain v) → v ≤ most Plain
 plain-most v h = omega arith
 
-pub minus-most : (v : ℕ) → SFits w32 (signed Minus v) → v ≤ most Minus
-minus-most zero h = omega arith
-minus-most (suc v) h = omega arith
-
 pub sign-most : (z : ℤ) → SFits w32 z → natAbs z ≤ most (signOf z)
 unfolding signOf
 sign-most (pos v) h = omega arith
@@ -72,10 +46,6 @@ sign-most (negsuc v) h = omega arith
 pub saturated-fit : (sign : Sign) (v : ℕ) → v ≤ most sign → saturated sign v ≡ signed sign v
 unfolding saturated
 saturated-fit sign v h = rw (le-leb v (most sign) h)
-
-pub saturated-misfit : (sign : Sign) (v : ℕ) → most sign < v → saturated sign v ≡ pos 0
-unfolding saturated
-saturated-misfit sign v h = rw (lt-leb v (most sign) h)
 
 -- and the machine holds it
 pub saturated-fits : (sign : Sign) (v : ℕ) → SFits w32 (saturated sign v)

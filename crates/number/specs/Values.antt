@@ -8,7 +8,7 @@ use native.Mathlib.Omega.{arith}
 use lib.ListN.{length, getD}
 use borrow.Author.Tests.{le-leb}
 use Rattle.texts.specs.Tests.{and-true, true-and}
-use Rattle.texts.specs.Runs.{every, Some}
+use Rattle.texts.specs.Runs.{every}
 use Rattle.alphabet.specs.Letters.{digit}
 use Rattle.alphabet.specs.Apart.{digit-bounds}
 use Rattle.number.specs.Digits.{valFrom, val}
@@ -34,12 +34,6 @@ zero-value s = refl
 pub zero-every : (s : List ℕ) → every digit s ≡ true → every digit (code "0" ∷ s) ≡ true
 unfolding every digit
 zero-every s h = h
-
-pub zero-some : {s : List ℕ} → Some digit s → Some digit (code "0" ∷ s)
-zero-some {s} d = record { some = omega (arith, d .some); all = zero-every s (d .all) }
-
-pub zero-other : (s : List ℕ) → code "0" ∷ s ≡ s → ⊥
-zero-other s e = omega (arith, ap length e)
 
 -- digit strings of one length and one value are one
 pub val-injective : (v w : ℕ) (s t : List ℕ) → every digit s ≡ true → every digit t ≡ true → length s ≡ length t

@@ -4,6 +4,7 @@ ghost use mathlib.Core.Path.{_≡_};
 ghost use Prim.Native.Nat.{_+_, _≤_, min};
 ghost use lib.IntN.{pos, negℤ, natAbs};
 ghost use lib.ListN.{length};
+ghost use Rattle.alphabet.specs.Cells.{IsTable};
 ghost use Rattle.lent.specs.Put.{put};
 ghost use Rattle.number.specs.Digits.{dec};
 ghost use Rattle.number.specs.Reading.{signed, most, tooLarge, numberOf, numberAt};
@@ -80,14 +81,15 @@ fn capped(v: u64) -> u64
 }
 
 // The digits at the front of a text, of any length, in one pass.
-pub fn number_at(s: &[u8], sign: Sign) -> Number
+pub fn number_at(table: &[u8; 256], s: &[u8], sign: Sign) -> Number
+    requires { ⌜ IsTable (now table) ⌝ }
     ensures { λ r. ⌜ r ≡ numberAt sign (now (s .entry)) ⌝ }
 {
     let mut v: u64 = 0;
     let mut i = 0;
     while i < s.len() {
         let b = s[i];
-        if !alphabet::is_in(Class::Digit, b) {
+        if !alphabet::is_in(table, Class::Digit, b) {
             return number_of(i, sign, v);
         }
         v = capped(10 * v + (b - b'0') as u64);

@@ -3,6 +3,7 @@ use alphabet::Class;
 use record::spans::Part;
 use record::variant::Header;
 ghost use mathlib.Core.Path.{_≡_};
+ghost use Rattle.alphabet.specs.Cells.{IsTable};
 ghost use Rattle.grammar.specs.Spans.{optionalPart};
 ghost use Rattle.grammar.specs.Contents.{headerContent};
 ghost use Rattle.lang.specs.Whole.{whole};
@@ -11,41 +12,45 @@ ghost use Rattle.headers.specs.Canonical.{isGene, canonHeader};
 ghost use Rattle.plan_header.specs.HeaderText.{isSome, isName};
 
 // Is the whole text an accession?
-fn is_accession(s: &[u8]) -> bool
+fn is_accession(table: &[u8; 256], s: &[u8]) -> bool
+    requires { ⌜ IsTable (now table) ⌝ }
     ensures { λ r. ⌜ r ≡ isSome (whole accessionLang (now (s .entry))) ⌝ }
 {
     if s.len() == 0 {
         return false;
     }
-    read_header::accession(s) == s.len()
+    read_header::accession(table, s) == s.len()
 }
 
 // Is the whole text one or more letters or digits?
-fn is_name(s: &[u8]) -> bool
+fn is_name(table: &[u8; 256], s: &[u8]) -> bool
+    requires { ⌜ IsTable (now table) ⌝ }
     ensures { λ r. ⌜ r ≡ isName (now (s .entry)) ⌝ }
 {
     if s.len() == 0 {
         return false;
     }
-    alphabet::run_of(Class::Alphanumeric, s) == s.len()
+    alphabet::run_of(table, Class::Alphanumeric, s) == s.len()
 }
 
-fn gene_has_text(source: &[u8], gene: Part) -> bool
+fn gene_has_text(table: &[u8; 256], source: &[u8], gene: Part) -> bool
+    requires { ⌜ IsTable (now table) ⌝ }
     ensures { λ r. ⌜ r ≡ isGene (optionalPart (now (source .entry)) gene) ⌝ }
 {
     match gene {
         Part::Absent => true,
-        Part::Present(p) => is_name(parts::part_of(source, p)),
+        Part::Present(p) => is_name(table, parts::part_of(source, p)),
     }
 }
 
-pub fn header_has_text(source: &[u8], h: Header) -> bool
+pub fn header_has_text(table: &[u8; 256], source: &[u8], h: Header) -> bool
+    requires { ⌜ IsTable (now table) ⌝ }
     ensures { λ r. ⌜ r ≡ isSome (canonHeader (headerContent (now (source .entry)) h)) ⌝ }
 {
     let accession = h.accession;
     let gene = h.gene_symbol;
-    if gene_has_text(source, gene) {
-        return is_accession(parts::part_of(source, accession));
+    if gene_has_text(table, source, gene) {
+        return is_accession(table, parts::part_of(source, accession));
     }
     false
 }

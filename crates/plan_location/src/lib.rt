@@ -11,6 +11,7 @@ use record::spans::Span;
 use record::variant::Kind;
 ghost use mathlib.Core.Path.{_≡_};
 ghost use mathlib.Core.Bool.{true};
+ghost use Rattle.alphabet.specs.Cells.{IsTable};
 ghost use Rattle.emit.specs.Texts.{noEnd};
 ghost use Rattle.plan_location.specs.Plan.{heldOffset, signMark, offsetSign, offsetAmount, endPlan, unsignedPlan, basedPlan, genomicPlan, residualPlan, positionPlan, bracketMark, placePlan, planLocation};
 
@@ -111,16 +112,18 @@ fn plan_genomic(unknown: bool, number: i32) -> EndPlan
 }
 
 // p
-fn plan_residual(source: &[u8], aa: Span, number: i32) -> EndPlan
+fn plan_residual(table: &[u8; 256], source: &[u8], aa: Span, number: i32) -> EndPlan
+    requires { ⌜ IsTable (now table) ⌝ }
     ensures { λ r. ⌜ r ≡ residualPlan (now (source .entry)) aa number ⌝ }
 {
-    if residue::is_residue(parts::part_of(source, aa)) {
+    if residue::is_residue(table, parts::part_of(source, aa)) {
         return plan_unsigned(aa, Mark::Nothing, number, Offset::Absent);
     }
     EndPlan::NoText
 }
 
-pub fn plan_position(source: &[u8], kind: Kind, p: Position) -> EndPlan
+pub fn plan_position(table: &[u8; 256], source: &[u8], kind: Kind, p: Position) -> EndPlan
+    requires { ⌜ IsTable (now table) ⌝ }
     ensures { λ r. ⌜ r ≡ positionPlan (now (source .entry)) kind p ⌝ }
 {
     let aa = p.aa;
@@ -132,7 +135,7 @@ pub fn plan_position(source: &[u8], kind: Kind, p: Position) -> EndPlan
         Kind::Genome => plan_genomic(p.unknown, number),
         Kind::Mt => plan_genomic(p.unknown, number),
         Kind::Tx => plan_based(CdsFrom::Start, number, offset),
-        Kind::Prot => plan_residual(source, aa, number),
+        Kind::Prot => plan_residual(table, source, aa, number),
         Kind::Rna => plan_based(CdsFrom::Start, number, offset),
     }
 }
@@ -180,12 +183,13 @@ fn no_end() -> EndPlan
 }
 
 // What is to be written for a location, where it has a text.
-pub fn plan_location(source: &[u8], kind: Kind, l: Location) -> PlacePlan
+pub fn plan_location(table: &[u8; 256], source: &[u8], kind: Kind, l: Location) -> PlacePlan
+    requires { ⌜ IsTable (now table) ⌝ }
     ensures { λ r. ⌜ r ≡ planLocation (now (source .entry)) kind l ⌝ }
 {
     let start = l.start;
     let end = l.end;
-    let first = plan_position(source, kind, start);
+    let first = plan_position(table, source, kind, start);
     if same_position::same_position(source, kind, start, end) {
         return plan_place(l.certain, first, Mark::Nothing, no_end());
     }
@@ -193,6 +197,6 @@ pub fn plan_location(source: &[u8], kind: Kind, l: Location) -> PlacePlan
         l.certain,
         first,
         Mark::Byte(b'_'),
-        plan_position(source, kind, end),
+        plan_position(table, source, kind, end),
     )
 }

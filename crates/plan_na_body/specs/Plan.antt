@@ -22,22 +22,29 @@ use Rattle.plan_na_body.specs.declared.BodyPlan.the-variants.{NoText, Te
 
 -- an edit in brackets where it is not certain
 abbrev pub besideBody : Place → Bool → Row → Body
-besideBody p isCertain row = record { place = p; opening = bracketMark isCertain (code "("); row = row; closing = bracketMark isCertain (code ")") }
+besideBody p sure row = record { place = p; opening = bracketMark sure (code "("); row = row; closing = bracketMark sure (code ")") }
 
 abbrev pub joinedPlan : Bool → PlacePlan → RowPlan → BodyPlan
-joinedPlan isCertain (Places.Text p) (Rows.Text row) = Text (besideBody p isCertain row)
-joinedPlan isCertain (Places.Text p) Rows.NoText = NoText
-joinedPlan isCertain Places.NoText row = NoText
+joinedPlan sure (Places.Text p) (Rows.Text row) = Text (besideBody p sure row)
+joinedPlan sure (Places.Text p) Rows.NoText = NoText
+joinedPlan sure Places.NoText row = NoText
 
 -- another row for an edit that has a text
 abbrev pub replacedRow : RowPlan → Row → RowPlan
 replacedRow Rows.NoText row = Rows.NoText
 replacedRow (Rows.Text planned) row = Rows.Text row
 
+abbrev pub isCertain : MuNaEdit → Bool
+isCertain (MuNa.Certain e) = true
+isCertain (MuNa.Uncertain e) = false
+
+abbrev pub editOf : MuNaEdit → NaEdit
+editOf (MuNa.Certain e) = e
+editOf (MuNa.Uncertain e) = e
+
 module _ (s : List ℕ) (isShortest : Bool) where
   unfoldable pub naRow : NaEdit → RowPlan
   naRow e = cond isShortest (planNaEdit s e) (replacedRow (planNaEdit s e) (noRefRow s e))
 
   abbrev pub planNaBody : Kind → Location → MuNaEdit → BodyPlan
-  planNaBody k l (MuNa.Certain e) = joinedPlan true (planLocation s k l) (naRow e)
-  planNaBody k l (MuNa.Uncertain e) = joinedPlan false (planLocation s k l) (naRow e)
+  planNaBody k l e = joinedPlan (isCertain e) (planLocation s k l) (naRow (editOf e))

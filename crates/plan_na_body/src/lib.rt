@@ -9,7 +9,8 @@ use record::edits::NaEdit;
 use record::variant::Kind;
 use rows::RowPlan;
 ghost use mathlib.Core.Path.{_≡_};
-ghost use Rattle.plan_na_body.specs.Plan.{besideBody, joinedPlan, replacedRow, naRow, planNaBody};
+ghost use Rattle.alphabet.specs.Cells.{IsTable};
+ghost use Rattle.plan_na_body.specs.Plan.{besideBody, joinedPlan, replacedRow, naRow, isCertain, editOf, planNaBody};
 
 // A body that is to be written, where it has a text.
 pub enum BodyPlan {
@@ -51,22 +52,47 @@ fn replaced(planned: RowPlan, row: Row) -> RowPlan
 }
 
 // Shortest, or without the reference; an edit that has no text has none without the reference either.
-fn na_row(source: &[u8], shortest: bool, e: NaEdit) -> RowPlan
+fn na_row(table: &[u8; 256], source: &[u8], shortest: bool, e: NaEdit) -> RowPlan
+    requires { ⌜ IsTable (now table) ⌝ }
     ensures { λ r. ⌜ r ≡ naRow (now (source .entry)) shortest e ⌝ }
 {
-    let planned = plan_na_edit::plan_na_edit(source, e);
+    let planned = plan_na_edit::plan_na_edit(table, source, e);
     if shortest {
         return planned;
     }
     replaced(planned, plan_na_edit::no_ref(source, e))
 }
 
-pub fn plan_na_body(source: &[u8], shortest: bool, kind: Kind, l: Location, e: MuNaEdit) -> BodyPlan
+fn is_certain(e: MuNaEdit) -> bool
+    ensures { λ r. ⌜ r ≡ isCertain e ⌝ }
+{
+    match e {
+        MuNaEdit::Certain(_) => true,
+        MuNaEdit::Uncertain(_) => false,
+    }
+}
+
+fn edit_of(e: MuNaEdit) -> NaEdit
+    ensures { λ r. ⌜ r ≡ editOf e ⌝ }
+{
+    match e {
+        MuNaEdit::Certain(a) => a,
+        MuNaEdit::Uncertain(a) => a,
+    }
+}
+
+pub fn plan_na_body(
+    table: &[u8; 256],
+    source: &[u8],
+    shortest: bool,
+    kind: Kind,
+    l: Location,
+    e: MuNaEdit,
+) -> BodyPlan
+    requires { ⌜ IsTable (now table) ⌝ }
     ensures { λ r. ⌜ r ≡ planNaBody (now (source .entry)) shortest kind l e ⌝ }
 {
-    let place = plan_location::plan_location(source, kind, l);
-    match e {
-        MuNaEdit::Certain(a) => joined(true, place, na_row(source, shortest, a)),
-        MuNaEdit::Uncertain(a) => joined(false, place, na_row(source, shortest, a)),
-    }
+    let place = plan_location::plan_location(table, source, kind, l);
+    let row = na_row(table, source, shortest, edit_of(e));
+    joined(is_certain(e), place, row)
 }

@@ -10,17 +10,19 @@ use rows::RowPlan;
 ghost use mathlib.Core.Path.{_≡_};
 ghost use lib.Dec.{leb};
 ghost use lib.ListN.{length};
+ghost use Rattle.alphabet.specs.Cells.{IsTable};
 ghost use Rattle.grammar.specs.Spans.{part};
 ghost use Rattle.plan_na_edit.specs.Plan.{delInsRow, countRow, isSeq, isSeq1, sameParts, onesParts, planChange, planRefAlt, planNumAlt, planCount, planSeq, planIns, planNaEdit, noRefAlt, noRefRow};
 
 // ---- tests of letters
 
 // Zero or more letters.
-fn is_seq(source: &[u8], p: Span) -> bool
+fn is_seq(table: &[u8; 256], source: &[u8], p: Span) -> bool
+    requires { ⌜ IsTable (now table) ⌝ }
     ensures { λ r. ⌜ r ≡ isSeq (now (source .entry)) p ⌝ }
 {
     let bytes = parts::part_of(source, p);
-    alphabet::run_of(Class::Nucleotide, bytes) == bytes.len()
+    alphabet::run_of(table, Class::Nucleotide, bytes) == bytes.len()
 }
 
 fn is_some(source: &[u8], q: Span) -> bool
@@ -30,10 +32,11 @@ fn is_some(source: &[u8], q: Span) -> bool
 }
 
 // One or more letters.
-fn is_seq1(source: &[u8], q: Span) -> bool
+fn is_seq1(table: &[u8; 256], source: &[u8], q: Span) -> bool
+    requires { ⌜ IsTable (now table) ⌝ }
     ensures { λ r. ⌜ r ≡ isSeq1 (now (source .entry)) q ⌝ }
 {
-    if is_seq(source, q) {
+    if is_seq(table, source, q) {
         return is_some(source, q);
     }
     false
@@ -99,22 +102,24 @@ fn plan_change(source: &[u8], p: Span, q: Span) -> RowPlan
     rows::row_if(is_some(source, q), del_ins_row(p, q))
 }
 
-fn plan_ref_alt(source: &[u8], p: Span, q: Span) -> RowPlan
+fn plan_ref_alt(table: &[u8; 256], source: &[u8], p: Span, q: Span) -> RowPlan
+    requires { ⌜ IsTable (now table) ⌝ }
     ensures { λ r. ⌜ r ≡ planRefAlt (now (source .entry)) p q ⌝ }
 {
-    if !is_seq(source, p) {
+    if !is_seq(table, source, p) {
         return RowPlan::NoText;
     }
-    if !is_seq(source, q) {
+    if !is_seq(table, source, q) {
         return RowPlan::NoText;
     }
     plan_change(source, p, q)
 }
 
-fn plan_num_alt(source: &[u8], n: i32, q: Span) -> RowPlan
+fn plan_num_alt(table: &[u8; 256], source: &[u8], n: i32, q: Span) -> RowPlan
+    requires { ⌜ IsTable (now table) ⌝ }
     ensures { λ r. ⌜ r ≡ planNumAlt (now (source .entry)) n q ⌝ }
 {
-    if !is_seq1(source, q) {
+    if !is_seq1(table, source, q) {
         return RowPlan::NoText;
     }
     rows::row_if(
@@ -132,30 +137,33 @@ fn plan_count(word: Word, n: i32) -> RowPlan
     )
 }
 
-fn plan_seq(source: &[u8], word: Word, p: Span) -> RowPlan
+fn plan_seq(table: &[u8; 256], source: &[u8], word: Word, p: Span) -> RowPlan
+    requires { ⌜ IsTable (now table) ⌝ }
     ensures { λ r. ⌜ r ≡ planSeq (now (source .entry)) word p ⌝ }
 {
-    rows::row_if(is_seq(source, p), rows::word_row(word, p))
+    rows::row_if(is_seq(table, source, p), rows::word_row(word, p))
 }
 
-fn plan_ins(source: &[u8], q: Span) -> RowPlan
+fn plan_ins(table: &[u8; 256], source: &[u8], q: Span) -> RowPlan
+    requires { ⌜ IsTable (now table) ⌝ }
     ensures { λ r. ⌜ r ≡ planIns (now (source .entry)) q ⌝ }
 {
-    rows::row_if(is_seq1(source, q), rows::word_row(Word::Ins, q))
+    rows::row_if(is_seq1(table, source, q), rows::word_row(Word::Ins, q))
 }
 
 // The row of the shortest text of an edit; none where no text reads as it.
-pub fn plan_na_edit(source: &[u8], e: NaEdit) -> RowPlan
+pub fn plan_na_edit(table: &[u8; 256], source: &[u8], e: NaEdit) -> RowPlan
+    requires { ⌜ IsTable (now table) ⌝ }
     ensures { λ r. ⌜ r ≡ planNaEdit (now (source .entry)) e ⌝ }
 {
     match e {
-        NaEdit::RefAlt(p, q) => plan_ref_alt(source, p, q),
-        NaEdit::NumAlt(n, q) => plan_num_alt(source, n, q),
-        NaEdit::DelRef(p) => plan_seq(source, Word::Del, p),
+        NaEdit::RefAlt(p, q) => plan_ref_alt(table, source, p, q),
+        NaEdit::NumAlt(n, q) => plan_num_alt(table, source, n, q),
+        NaEdit::DelRef(p) => plan_seq(table, source, Word::Del, p),
         NaEdit::DelNum(n) => plan_count(Word::Del, n),
-        NaEdit::Ins(q) => plan_ins(source, q),
-        NaEdit::Dup(p) => plan_seq(source, Word::Dup, p),
-        NaEdit::InvRef(p) => plan_seq(source, Word::Inv, p),
+        NaEdit::Ins(q) => plan_ins(table, source, q),
+        NaEdit::Dup(p) => plan_seq(table, source, Word::Dup, p),
+        NaEdit::InvRef(p) => plan_seq(table, source, Word::Inv, p),
         NaEdit::InvNum(n) => plan_count(Word::Inv, n),
     }
 }

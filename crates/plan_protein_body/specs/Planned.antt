@@ -1,10 +1,9 @@
 -- The text of a planned protein body is that of its canonical tree; and there is none where it has none.
 use Prim.Native.Nat.{ℕ}
-use Prim.Native.Char.{code}
 use mathlib.Core.Path.{_≡_, refl, sym, ap, _∙_}
-use mathlib.Core.List.{List, [], _∷_, _++_, append-nil, append-assoc}
+use mathlib.Core.List.{List, [], _++_, append-nil, append-assoc}
 use mathlib.Core.Option.{Option, none, some}
-use mathlib.Core.Bool.{Bool, true, false, cond, _&&_}
+use mathlib.Core.Bool.{Bool, true, false, _&&_}
 use Rattle.texts.specs.Ascii.{ascii}
 use Rattle.texts.specs.Tests.{none-some, and-true}
 use Rattle.texts.specs.Words.{same, same-true}
@@ -17,7 +16,7 @@ use Rattle.record.specs.declared.positions.MuProtInterval.the-variants as MuPro
 use Rattle.record.specs.declared.variant.ProtLocEdit.{ProtLocEdit}
 use Rattle.record.specs.declared.variant.ProtLocEdit.the-variants as Bodies
 use Rattle.grammar.specs.Spans.{part}
-use Rattle.grammar.specs.Shapes.{Mu, Mu.certain, Mu.uncertain, Both, Both.both}
+use Rattle.grammar.specs.Shapes.{Mu.certain, Both.both}
 use Rattle.grammar.specs.ProteinEdits as Tree
 use Rattle.grammar.specs.ProteinEdits.{ProteinEdit.substUnknown, printProteinEdit}
 use Rattle.grammar.specs.Bodies.{Ends, printEnds, printLocation, printProteinBody}

@@ -19,6 +19,7 @@ use rows::RowPlan;
 ghost use mathlib.Core.Path.{_≡_};
 ghost use mathlib.Core.Bool.{_||_, not};
 ghost use Rattle.texts.specs.Words.{same};
+ghost use Rattle.alphabet.specs.Cells.{IsTable};
 ghost use Rattle.grammar.specs.Spans.{part};
 ghost use Rattle.emit.specs.Texts.{noEnd};
 ghost use Rattle.plan_protein_body.specs.Plan.{isMetOne, isUnknownEdit, isAlike, isBarred, placeAt, met01Place, bodyOf, togetherPlan, planOrdinary, planMuProtein, wordBody, planProteinBody};
@@ -167,7 +168,14 @@ fn together(located: bool, certain: bool, place: PlacePlan, row: RowPlan) -> Bod
     BodyPlan::Text(body_of(located, certain, p, e))
 }
 
-fn plan_ordinary(source: &[u8], l: Location, certain: bool, e: ProteinEdit) -> BodyPlan
+fn plan_ordinary(
+    table: &[u8; 256],
+    source: &[u8],
+    l: Location,
+    certain: bool,
+    e: ProteinEdit,
+) -> BodyPlan
+    requires { ⌜ IsTable (now table) ⌝ }
     ensures { λ r. ⌜ r ≡ planOrdinary (now (source .entry)) l certain e ⌝ }
 {
     if is_barred(source, l, certain, e) {
@@ -183,17 +191,18 @@ fn plan_ordinary(source: &[u8], l: Location, certain: bool, e: ProteinEdit) -> B
     together(
         l.certain,
         certain,
-        plan_location::plan_location(source, Kind::Prot, l),
-        plan_protein_edit::plan_protein_edit(source, e),
+        plan_location::plan_location(table, source, Kind::Prot, l),
+        plan_protein_edit::plan_protein_edit(table, source, e),
     )
 }
 
-fn plan_mu(source: &[u8], l: Location, e: MuProteinEdit) -> BodyPlan
+fn plan_mu(table: &[u8; 256], source: &[u8], l: Location, e: MuProteinEdit) -> BodyPlan
+    requires { ⌜ IsTable (now table) ⌝ }
     ensures { λ r. ⌜ r ≡ planMuProtein (now (source .entry)) l e ⌝ }
 {
     match e {
-        MuProteinEdit::Certain(a) => plan_ordinary(source, l, true, a),
-        MuProteinEdit::Uncertain(a) => plan_ordinary(source, l, false, a),
+        MuProteinEdit::Certain(a) => plan_ordinary(table, source, l, true, a),
+        MuProteinEdit::Uncertain(a) => plan_ordinary(table, source, l, false, a),
     }
 }
 
@@ -210,11 +219,12 @@ fn word_body(word: Word) -> BodyPlan
     })
 }
 
-pub fn plan_protein_body(source: &[u8], b: ProtLocEdit) -> BodyPlan
+pub fn plan_protein_body(table: &[u8; 256], source: &[u8], b: ProtLocEdit) -> BodyPlan
+    requires { ⌜ IsTable (now table) ⌝ }
     ensures { λ r. ⌜ r ≡ planProteinBody (now (source .entry)) b ⌝ }
 {
     match b {
-        ProtLocEdit::Ordinary(l, e) => plan_mu(source, record_location::of_prot(l), e),
+        ProtLocEdit::Ordinary(l, e) => plan_mu(table, source, record_location::of_prot(l), e),
         ProtLocEdit::NoChange => word_body(Word::Equal),
         ProtLocEdit::NoChangeUncertain => word_body(Word::NoChangeUncertain),
         ProtLocEdit::NoProtein => word_body(Word::NoProtein),

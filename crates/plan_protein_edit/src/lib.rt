@@ -9,6 +9,7 @@ use record::spans::Part;
 use record::spans::Span;
 use rows::RowPlan;
 ghost use mathlib.Core.Path.{_≡_};
+ghost use Rattle.alphabet.specs.Cells.{IsTable};
 ghost use Rattle.plan_protein_edit.specs.Plan.{spanOf, amountOf, jointOf, endRow, isNegated, isLength, isNone, isTerminal, isOptionalPart, isTerminalWith, isStop, isEarlier, planFs, planExt, isSubst, planSubst, planResidues, planProteinEdit};
 
 // ---- what stands in the row
@@ -102,12 +103,13 @@ fn is_terminal(w: &[u8]) -> bool
 }
 
 // A residue, or none.
-fn is_optional(source: &[u8], residue: Part) -> bool
+fn is_optional(table: &[u8; 256], source: &[u8], residue: Part) -> bool
+    requires { ⌜ IsTable (now table) ⌝ }
     ensures { λ r. ⌜ r ≡ isOptionalPart (now (source .entry)) residue ⌝ }
 {
     match residue {
         Part::Absent => true,
-        Part::Present(p) => residue::is_residue(parts::part_of(source, p)),
+        Part::Present(p) => residue::is_residue(table, parts::part_of(source, p)),
     }
 }
 
@@ -131,14 +133,15 @@ fn is_stop(source: &[u8], end: Part, n: UncertainLengthChange) -> bool
 }
 
 // A residue or none, with `-` and a number.
-fn is_earlier(source: &[u8], end: Part, n: UncertainLengthChange) -> bool
+fn is_earlier(table: &[u8; 256], source: &[u8], end: Part, n: UncertainLengthChange) -> bool
+    requires { ⌜ IsTable (now table) ⌝ }
     ensures { λ r. ⌜ r ≡ isEarlier (now (source .entry)) end n ⌝ }
 {
     match n {
         UncertainLengthChange::None => false,
         UncertainLengthChange::Unknown => false,
         UncertainLengthChange::Known(z) => {
-            if is_optional(source, end) {
+            if is_optional(table, source, end) {
                 return is_negated(z);
             }
             false
@@ -147,11 +150,12 @@ fn is_earlier(source: &[u8], end: Part, n: UncertainLengthChange) -> bool
 }
 
 // A residue, or `?`.
-fn is_subst(source: &[u8], p: Span) -> bool
+fn is_subst(table: &[u8; 256], source: &[u8], p: Span) -> bool
+    requires { ⌜ IsTable (now table) ⌝ }
     ensures { λ r. ⌜ r ≡ isSubst (now (source .entry)) p ⌝ }
 {
     let bytes = parts::part_of(source, p);
-    if residue::is_residue(bytes) {
+    if residue::is_residue(table, bytes) {
         return true;
     }
     rows::same_bytes(bytes, b"?")
@@ -159,10 +163,17 @@ fn is_subst(source: &[u8], p: Span) -> bool
 
 // ---- plans
 
-fn plan_fs(source: &[u8], residue: Part, end: Part, n: UncertainLengthChange) -> RowPlan
+fn plan_fs(
+    table: &[u8; 256],
+    source: &[u8],
+    residue: Part,
+    end: Part,
+    n: UncertainLengthChange,
+) -> RowPlan
+    requires { ⌜ IsTable (now table) ⌝ }
     ensures { λ r. ⌜ r ≡ planFs (now (source .entry)) residue end n ⌝ }
 {
-    if !is_optional(source, residue) {
+    if !is_optional(table, source, residue) {
         return RowPlan::NoText;
     }
     rows::row_if(
@@ -171,49 +182,59 @@ fn plan_fs(source: &[u8], residue: Part, end: Part, n: UncertainLengthChange) ->
     )
 }
 
-fn plan_ext(source: &[u8], residue: Part, end: Part, n: UncertainLengthChange) -> RowPlan
+fn plan_ext(
+    table: &[u8; 256],
+    source: &[u8],
+    residue: Part,
+    end: Part,
+    n: UncertainLengthChange,
+) -> RowPlan
+    requires { ⌜ IsTable (now table) ⌝ }
     ensures { λ r. ⌜ r ≡ planExt (now (source .entry)) residue end n ⌝ }
 {
-    if !is_optional(source, residue) {
+    if !is_optional(table, source, residue) {
         return RowPlan::NoText;
     }
     if is_stop(source, end, n) {
         return RowPlan::Text(end_row(residue, Word::Ext, end, Mark::Nothing, n));
     }
     rows::row_if(
-        is_earlier(source, end, n),
+        is_earlier(table, source, end, n),
         end_row(residue, Word::Ext, end, Mark::Byte(b'-'), n),
     )
 }
 
-fn plan_subst(source: &[u8], p: Span) -> RowPlan
+fn plan_subst(table: &[u8; 256], source: &[u8], p: Span) -> RowPlan
+    requires { ⌜ IsTable (now table) ⌝ }
     ensures { λ r. ⌜ r ≡ planSubst (now (source .entry)) p ⌝ }
 {
     rows::row_if(
-        is_subst(source, p),
+        is_subst(table, source, p),
         rows::letters_row(p, Word::Empty, rows::no_span()),
     )
 }
 
-fn plan_residues(source: &[u8], word: Word, p: Span) -> RowPlan
+fn plan_residues(table: &[u8; 256], source: &[u8], word: Word, p: Span) -> RowPlan
+    requires { ⌜ IsTable (now table) ⌝ }
     ensures { λ r. ⌜ r ≡ planResidues (now (source .entry)) word p ⌝ }
 {
     rows::row_if(
-        residue::is_residues(parts::part_of(source, p)),
+        residue::is_residues(table, parts::part_of(source, p)),
         rows::word_row(word, p),
     )
 }
 
 // The row of the shortest text of an edit; none where no text reads as it.
-pub fn plan_protein_edit(source: &[u8], e: ProteinEdit) -> RowPlan
+pub fn plan_protein_edit(table: &[u8; 256], source: &[u8], e: ProteinEdit) -> RowPlan
+    requires { ⌜ IsTable (now table) ⌝ }
     ensures { λ r. ⌜ r ≡ planProteinEdit (now (source .entry)) e ⌝ }
 {
     match e {
-        ProteinEdit::Fs(residue, end, n) => plan_fs(source, residue, end, n),
-        ProteinEdit::Ext(residue, end, n) => plan_ext(source, residue, end, n),
-        ProteinEdit::Subst(p) => plan_subst(source, p),
-        ProteinEdit::DelIns(p) => plan_residues(source, Word::DelIns, p),
-        ProteinEdit::Ins(p) => plan_residues(source, Word::Ins, p),
+        ProteinEdit::Fs(residue, end, n) => plan_fs(table, source, residue, end, n),
+        ProteinEdit::Ext(residue, end, n) => plan_ext(table, source, residue, end, n),
+        ProteinEdit::Subst(p) => plan_subst(table, source, p),
+        ProteinEdit::DelIns(p) => plan_residues(table, source, Word::DelIns, p),
+        ProteinEdit::Ins(p) => plan_residues(table, source, Word::Ins, p),
         ProteinEdit::Del => RowPlan::Text(rows::word_alone(Word::Del)),
         ProteinEdit::Dup => RowPlan::Text(rows::word_alone(Word::Dup)),
         ProteinEdit::Ident => RowPlan::Text(rows::word_alone(Word::Equal)),

@@ -1,6 +1,7 @@
 -- What is to be written for a whole record, where it has a text.
 use Prim.Native.Nat.{ℕ}
 use Prim.Native.Char.{code}
+use mathlib.Core.Path.{_≡_, ap}
 use mathlib.Core.List.{List}
 use mathlib.Core.Bool.{Bool, cond}
 use Rattle.record.specs.declared.spans.Span.{Span}
@@ -23,6 +24,8 @@ use Rattle.plan_na_body.specs.declared.BodyPlan.{BodyPlan}
 use Rattle.plan_na_body.specs.declared.BodyPlan.the-variants as Bodies
 use Rattle.plan_na_body.specs.Plan.{planNaBody}
 use Rattle.plan_protein_body.specs.Plan.{planProteinBody}
+use Rattle.plan_text.specs.declared.AnyBody.{AnyBody}
+use Rattle.plan_text.specs.declared.AnyBody.the-variants.{Nucleotide, Protein}
 use Rattle.plan_text.specs.declared.TextPlan.{TextPlan}
 use Rattle.plan_text.specs.declared.TextPlan.the-variants.{NoText, Text}
 
@@ -46,14 +49,25 @@ abbrev pub draftedPlan : Heading → BodyPlan → TextPlan
 draftedPlan h Bodies.NoText = NoText
 draftedPlan h (Bodies.Text b) = Text (record { heading = h; body = b })
 
+-- the location of each kind as one of any kind
+abbrev pub anyBody : Body → AnyBody
+anyBody (Bo.Cds b) = Nucleotide Cds (anyLocation Cds (b .loc)) (b .edit)
+anyBody (Bo.Genome b) = Nucleotide Genome (anyLocation Genome (b .loc)) (b .edit)
+anyBody (Bo.Mt b) = Nucleotide Mt (anyLocation Mt (b .loc)) (b .edit)
+anyBody (Bo.Tx b) = Nucleotide Tx (anyLocation Tx (b .loc)) (b .edit)
+anyBody (Bo.Prot b) = Protein b
+anyBody (Bo.Rna b) = Nucleotide Rna (anyLocation Rna (b .loc)) (b .edit)
+
 module _ (s : List ℕ) (isShortest : Bool) where
+  abbrev pub planAny : AnyBody → BodyPlan
+  planAny (Nucleotide k l e) = planNaBody s isShortest k l e
+  planAny (Protein b) = planProteinBody s b
+
   abbrev pub planBody : Body → BodyPlan
-  planBody (Bo.Cds b) = planNaBody s isShortest Cds (anyLocation Cds (b .loc)) (b .edit)
-  planBody (Bo.Genome b) = planNaBody s isShortest Genome (anyLocation Genome (b .loc)) (b .edit)
-  planBody (Bo.Mt b) = planNaBody s isShortest Mt (anyLocation Mt (b .loc)) (b .edit)
-  planBody (Bo.Tx b) = planNaBody s isShortest Tx (anyLocation Tx (b .loc)) (b .edit)
-  planBody (Bo.Prot b) = planProteinBody s b
-  planBody (Bo.Rna b) = planNaBody s isShortest Rna (anyLocation Rna (b .loc)) (b .edit)
+  planBody b = planAny (anyBody b)
+
+  pub plan-any : (b : Body) (p : AnyBody) → p ≡ anyBody b → planAny p ≡ planBody b
+  plan-any b p e = ap planAny e
 
   unfoldable pub textPlan : HgvsVariant → TextPlan
   textPlan v =

@@ -1,7 +1,7 @@
 -- What is planned for a record is the text that is wanted; and nothing where no text reads as the record.
 use Prim.Native.Nat.{ℕ, _≤_}
-use mathlib.Core.Path.{_≡_, refl, sym, ap, _∙_}
-use mathlib.Core.List.{List, [], _++_, append-nil, append-assoc}
+use mathlib.Core.Path.{_≡_, refl, sym}
+use mathlib.Core.List.{List, _++_, append-nil, append-assoc}
 use mathlib.Core.Option.{Option, none, some}
 use mathlib.Core.Bool.{Bool, true, cond}
 use lib.ListN.{length}
@@ -22,7 +22,7 @@ use Rattle.grammar.specs.Bodies.{Body}
 use Rattle.grammar.specs.Texts.{Text, Text.text, print, allLetters}
 use Rattle.grammar.specs.Values.{HeaderV, BodyV, Value, Value.value}
 use Rattle.grammar.specs.Contents.{locationContent, muNaEditContent, protBodyContent, bodyContent, headerContent, content, spansInside}
-use Rattle.lang.specs.Canon.{mapO, bothO}
+use Rattle.lang.specs.Canon.{mapO}
 use Rattle.na_edits.specs.Alphabet.{alphabets}
 use Rattle.headers.specs.Canonical.{canonHeader}
 use Rattle.promise.specs.Outcome.{limit}

@@ -3,18 +3,28 @@ use draft::Draft;
 use draft::Heading;
 use emit::Mark;
 use plan_na_body::BodyPlan;
+use read_location::Location;
+use record::edits::MuNaEdit;
 use record::spans::Part;
 use record::variant::Body;
 use record::variant::Header;
 use record::variant::HgvsVariant;
 use record::variant::Kind;
+use record::variant::ProtLocEdit;
 ghost use mathlib.Core.Path.{_≡_};
-ghost use Rattle.plan_text.specs.Plan.{kindOf, planBody, headingOf, draftedPlan, textPlan};
+ghost use Rattle.alphabet.specs.Cells.{IsTable};
+ghost use Rattle.plan_text.specs.Plan.{kindOf, anyBody, planBody, headingOf, draftedPlan, textPlan};
 
 // A text that is to be written, where there is one.
 pub enum TextPlan {
     NoText,
     Text(Draft),
+}
+
+// A body of any nucleotide kind, or of p.
+enum AnyBody {
+    Nucleotide(Kind, Location, MuNaEdit),
+    Protein(ProtLocEdit),
 }
 
 fn kind_of(b: Body) -> Kind
@@ -54,41 +64,49 @@ fn heading(h: Header, kind: Kind) -> Heading
     }
 }
 
-fn plan_body(source: &[u8], shortest: bool, b: Body) -> BodyPlan
-    ensures { λ r. ⌜ r ≡ planBody (now (source .entry)) shortest b ⌝ }
+// The location of each kind as one of any kind.
+fn any_body(b: Body) -> AnyBody
+    ensures { λ r. ⌜ r ≡ anyBody b ⌝ }
 {
     match b {
         Body::Cds(x) => {
             let loc = x.loc;
             let edit = x.edit;
-            let l = record_location::of_cds(loc);
-            plan_na_body::plan_na_body(source, shortest, Kind::Cds, l, edit)
+            AnyBody::Nucleotide(Kind::Cds, record_location::of_cds(loc), edit)
         }
         Body::Genome(x) => {
             let loc = x.loc;
             let edit = x.edit;
-            let l = record_location::of_genome(loc);
-            plan_na_body::plan_na_body(source, shortest, Kind::Genome, l, edit)
+            AnyBody::Nucleotide(Kind::Genome, record_location::of_genome(loc), edit)
         }
         Body::Mt(x) => {
             let loc = x.loc;
             let edit = x.edit;
-            let l = record_location::of_mt(loc);
-            plan_na_body::plan_na_body(source, shortest, Kind::Mt, l, edit)
+            AnyBody::Nucleotide(Kind::Mt, record_location::of_mt(loc), edit)
         }
         Body::Tx(x) => {
             let loc = x.loc;
             let edit = x.edit;
-            let l = record_location::of_tx(loc);
-            plan_na_body::plan_na_body(source, shortest, Kind::Tx, l, edit)
+            AnyBody::Nucleotide(Kind::Tx, record_location::of_tx(loc), edit)
         }
-        Body::Prot(x) => plan_protein_body::plan_protein_body(source, x),
+        Body::Prot(x) => AnyBody::Protein(x),
         Body::Rna(x) => {
             let loc = x.loc;
             let edit = x.edit;
-            let l = record_location::of_rna(loc);
-            plan_na_body::plan_na_body(source, shortest, Kind::Rna, l, edit)
+            AnyBody::Nucleotide(Kind::Rna, record_location::of_rna(loc), edit)
         }
+    }
+}
+
+fn plan_body(table: &[u8; 256], source: &[u8], shortest: bool, b: Body) -> BodyPlan
+    requires { ⌜ IsTable (now table) ⌝ }
+    ensures { λ r. ⌜ r ≡ planBody (now (source .entry)) shortest b ⌝ }
+{
+    match any_body(b) {
+        AnyBody::Nucleotide(kind, l, edit) => {
+            plan_na_body::plan_na_body(table, source, shortest, kind, l, edit)
+        }
+        AnyBody::Protein(x) => plan_protein_body::plan_protein_body(table, source, x),
     }
 }
 
@@ -105,13 +123,14 @@ fn drafted(heading: Heading, planned: BodyPlan) -> TextPlan
 pub fn plan_text(source: &[u8], shortest: bool, v: HgvsVariant) -> TextPlan
     ensures { λ r. ⌜ r ≡ textPlan (now (source .entry)) shortest v ⌝ }
 {
+    let table = alphabet::classes();
     let header = v.header;
     let body = v.body;
-    if !plan_header::header_has_text(source, header) {
+    if !plan_header::header_has_text(&table, source, header) {
         return TextPlan::NoText;
     }
     drafted(
         heading(header, kind_of(body)),
-        plan_body(source, shortest, body),
+        plan_body(&table, source, shortest, body),
     )
 }

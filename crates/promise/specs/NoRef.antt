@@ -1,16 +1,16 @@
 -- Document 01, "Reference-free writing".
 use Prim.Native.Nat.{ℕ}
 use mathlib.Core.Path.{_≡_}
-use mathlib.Core.List.{List, [], _∷_, _++_}
+use mathlib.Core.List.{List, _++_}
 use mathlib.Core.Option.{none}
 use mathlib.Core.Bool.{Bool, cond}
 use Rattle.texts.specs.Ascii.{ascii}
 use Rattle.texts.specs.Words.{same, oneEach}
 use Rattle.record.specs.declared.variant.Kind.{Kind}
 use Rattle.record.specs.declared.variant.Kind.the-variants.{Cds, Genome, Mt, Tx, Prot, Rna}
-use Rattle.grammar.specs.Header.{Header, printHeader, WfHeader, printKind}
-use Rattle.grammar.specs.Shapes.{Mu, Mu.certain, Mu.uncertain, Both, Both.both, printMu}
-use Rattle.grammar.specs.Bodies.{Location, printLocation, WfLocation}
+use Rattle.grammar.specs.Header.{printHeader, WfHeader, printKind}
+use Rattle.grammar.specs.Shapes.{Mu, Both.both, printMu}
+use Rattle.grammar.specs.Bodies.{printLocation, WfLocation}
 use Rattle.grammar.specs.Values.{NaEditV, NaEditV.refAlt, NaEditV.numAlt, NaEditV.delRef, NaEditV.delNum, NaEditV.insV, NaEditV.dupV, NaEditV.invRef, NaEditV.invNum, EndsV, NaBodyV, HeaderV, Value, Value.value}
 use Rattle.grammar.specs.Meaning.{meaningHeader, meaningEnds, mapMu}
 use Rattle.grammar.specs.Numbers.{misfit, muNumbers, endsNumbers}

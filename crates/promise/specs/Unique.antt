@@ -1,9 +1,9 @@
 -- No second answer fits.
-use Prim.Native.Nat.{ℕ, _≤_, _<_}
+use Prim.Native.Nat.{ℕ}
 use mathlib.Core.Path.{_≡_, refl, sym, ap, _∙_}
 use mathlib.Core.List.{List, _++_}
-use mathlib.Core.Option.{Option, none, some}
-use mathlib.Core.Bool.{Bool, true, false, cond}
+use mathlib.Core.Option.{none, some}
+use mathlib.Core.Bool.{Bool, cond}
 use native.Mathlib.Omega.{arith}
 use lib.Dec.{eqb}
 use lib.ListN.{length, drop}
@@ -17,8 +17,8 @@ use Rattle.record.specs.declared.answers.WriteAnswer.{WriteAnswer}
 use Rattle.record.specs.declared.answers.WriteAnswer.the-variants as W
 use Rattle.record.specs.declared.answers.WidthAnswer.{WidthAnswer}
 use Rattle.record.specs.declared.answers.WidthAnswer.the-variants as M
-use Rattle.grammar.specs.Header.{printHeader, WfHeader, printKind}
-use Rattle.grammar.specs.Shapes.{Both, Both.both}
+use Rattle.grammar.specs.Header.{printHeader, WfHeader}
+use Rattle.grammar.specs.Shapes.{Both.both}
 use Rattle.grammar.specs.Bodies.{printLocation, WfLocation}
 use Rattle.grammar.specs.Texts.{Text, print, Wf}
 use Rattle.grammar.specs.Values.{HeaderV, NaBodyV, Value, Value.value}
@@ -30,7 +30,7 @@ use Rattle.promise.specs.Outcome.{Outcome, Outcome.given, Outcome.refuse
 use Rattle.promise.specs.Reading.{TreeOf, Reads, Reads.tooLong, Reads.notInGrammar, Reads.doesNotFit, Reads.accepted}
 use Rattle.promise.specs.Writing as Write
 use Rattle.promise.specs.Writing.{Sound, Unsound, Unsound.tooLong, Unsound.badSpan, Unsound.noText, Writes, ToWrite, Fits}
-use Rattle.promise.specs.NoRef.{noRefEdit, NaNoRef, NoRefText}
+use Rattle.promise.specs.NoRef.{NaNoRef, NoRefText}
 use Rattle.promise.specs.Width.{Measures, Measures.unsound, Measures.noWidth, Measures.measured}
 
 -- ---- each case of an answer has its own number, place and value: the case is found from them

@@ -6,6 +6,7 @@ use record::variant::Kind;
 ghost use mathlib.Core.Path.{_≡_};
 ghost use Prim.Native.Nat.{_+_, _≤_};
 ghost use lib.ListN.{length};
+ghost use Rattle.alphabet.specs.Cells.{IsTable};
 ghost use Rattle.alphabet.specs.Classes.{member};
 ghost use Rattle.headers.specs.Optionals.{parseOptional};
 ghost use Rattle.headers.specs.Parse.{parseAccession, parseGene, parseHeader};
@@ -24,14 +25,15 @@ pub enum KindRead {
 }
 
 // The bytes of a word with one or more bytes of a class behind it; 0 where they are not there.
-fn optional(s: &[u8], word: &[u8], class: Class) -> usize
+fn optional(table: &[u8; 256], s: &[u8], word: &[u8], class: Class) -> usize
+    requires { ⌜ IsTable (now table) ⌝ }
     ensures { λ r. ⌜ r ≡ optionalLength (now (word .entry)) (parseOptional (now (word .entry)) (member class) (now (s .entry))) ⌝ }
 {
     if !scan::begins(s, word) {
         return 0;
     }
     let k = word.len();
-    let n = alphabet::run_of(class, &s[k..]);
+    let n = alphabet::run_of(table, class, &s[k..]);
     if n == 0 {
         return 0;
     }
@@ -39,31 +41,33 @@ fn optional(s: &[u8], word: &[u8], class: Class) -> usize
 }
 
 // The bytes of the accession; 0 where there is none.
-pub fn accession(s: &[u8]) -> usize
+pub fn accession(table: &[u8; 256], s: &[u8]) -> usize
+    requires { ⌜ IsTable (now table) ⌝ }
     ensures { λ r. ⌜ r ≡ accessionLength (parseAccession (now (s .entry))) ⌝ }
 {
     if s.len() == 0 {
         return 0;
     }
-    if !alphabet::is_in(Class::Letter, s[0]) {
+    if !alphabet::is_in(table, Class::Letter, s[0]) {
         return 0;
     }
-    let n = alphabet::run_of(Class::Alphanumeric, &s[1..]);
+    let n = alphabet::run_of(table, Class::Alphanumeric, &s[1..]);
     if n == 0 {
         return 0;
     }
     let name = 1 + n;
-    let suffix = optional(&s[name..], b"_", Class::Alphanumeric);
+    let suffix = optional(table, &s[name..], b"_", Class::Alphanumeric);
     let suffixed = name + suffix;
-    let version = optional(&s[suffixed..], b".", Class::Digit);
+    let version = optional(table, &s[suffixed..], b".", Class::Digit);
     suffixed + version
 }
 
 // The bytes of the gene between its brackets; 0 where there is none.
-fn gene_symbol(s: &[u8]) -> usize
+fn gene_symbol(table: &[u8; 256], s: &[u8]) -> usize
+    requires { ⌜ IsTable (now table) ⌝ }
     ensures { λ r. ⌜ r ≡ geneLength (parseGene (now (s .entry))) ⌝ }
 {
-    let n = optional(s, b"(", Class::Alphanumeric);
+    let n = optional(table, s, b"(", Class::Alphanumeric);
     if n == 0 {
         return 0;
     }
@@ -74,16 +78,16 @@ fn gene_symbol(s: &[u8]) -> usize
 }
 
 // The header at the front of s, which stands at `at` in its text.
-pub fn header_at(s: &[u8], at: usize) -> HeaderRead
-    requires { ⌜ at + length (now s) ≤ 4096 ⌝ }
+pub fn header_at(table: &[u8; 256], s: &[u8], at: usize) -> HeaderRead
+    requires { ⌜ (at + length (now s) ≤ 4096) × IsTable (now table) ⌝ }
     ensures { λ r. ⌜ r ≡ headerAnswer at (parseHeader (now (s .entry))) ⌝ }
 {
-    let n = accession(s);
+    let n = accession(table, s);
     if n == 0 {
         return HeaderRead::Nothing;
     }
     let name = scan::span(at, n);
-    let g = gene_symbol(&s[n..]);
+    let g = gene_symbol(table, &s[n..]);
     if g == 0 {
         return HeaderRead::Found(
             Header {

@@ -1,2 +1,3 @@
 pub mod Positions
-pub mod Locations
+pub mod Intervals
+pub mod MuLaws

@@ -25,7 +25,8 @@ use Rattle.residue.specs.Reading.{residueLen}
 use Rattle.residue.specs.Laws.{residue-le}
 use Rattle.record.specs.declared.spans.Span.{Span}
 use Rattle.record.specs.declared.positions.Offset.the-variants.{Absent, By}
-use Rattle.record.specs.declared.variant.Kind.the-variants.{Cds, Genome, Tx, Prot}
+use Rattle.record.specs.declared.variant.Kind.{Kind}
+use Rattle.record.specs.declared.variant.Kind.the-variants.{Cds, Genome, Prot}
 use Rattle.grammar.specs.Positions as Tree
 use Rattle.grammar.specs.Positions.{Mark.bare, Mark.plus, Mark.minus, Mark.star, Offset, Offset.absent, Offset.ahead, Offset.back, Based.based, Genomic.known, Genomic.unknown, Residual.residual, printMark, printOffset}
 use Rattle.grammar.specs.Meaning.{number, signOf}
@@ -34,12 +35,13 @@ use Rattle.grammar.specs.Numbers.{Numeral.numeral, offsetNumbers}
 use Rattle.scan.specs.declared.Faults.{Faults}
 use Rattle.scan.specs.Reading.{number-run, number-len, number-le, number-value, number-faults}
 use Rattle.scan.specs.Faults.{faults, none as noFault, unfitUnless, first, faults-nil, faults-append}
-use Rattle.location.specs.Parse.{onDigits, parseMark, parseOffset, parseBased, parseUnstarred, parseGenomic, parseResidual}
+use Rattle.location.specs.Parse.{onDigits, parseMark, parseOffset, parseBased, parseGenomic, parseResidual}
 use Rattle.location.specs.Sound.{digits-none, digits-some, mark-split, offset-sound}
 use Rattle.read_location.specs.declared.Position.{Position}
 use Rattle.read_location.specs.declared.PositionRead.the-variants.{Nothing, Found}
 use Rattle.read_location.specs.declared.Mark.{Mark}
 use Rattle.read_location.specs.declared.OffsetRead.{OffsetRead}
+use Rattle.read_location.specs.Forms.{isBarred, parseBasedFor}
 use Rattle.read_location.specs.Answer.{plainOf, basedOf, foundAs, positionAnswer, markOf, offsetAnswer, offsetBehind}
 
 -- ---- marks
@@ -167,14 +169,14 @@ module _ (at : ℕ) (s : List ℕ) (m : Mark) (em : m ≡ markOf (parseMark s)) 
           rw (digits-some none (λ ds. some (based (parseMark s) ds (parseOffset (behind digit y)))) y (λ q. z (number-run (signOf (parseMark s)) y n read ∙ q)), eg, h, ea, v, l, offset-read, em)
           (based-found at (parseMark s) ds (parseOffset (behind digit y)))
 
-module _ (at : ℕ) (s : List ℕ) where
-  pub unstarred-none : starts (ascii "*") s ≡ true → Nothing ≡ positionAnswer Tx at (parseUnstarred s)
-  unfolding parseUnstarred foundAs
-  unstarred-none e = rw e
+module _ (k : Kind) (at : ℕ) (s : List ℕ) where
+  pub based-barred : isBarred k s ≡ true → Nothing ≡ positionAnswer Cds at (parseBasedFor k s)
+  unfolding parseBasedFor foundAs
+  based-barred e = rw e
 
-  pub unstarred-some : starts (ascii "*") s ≡ false → positionAnswer Cds at (parseBased s) ≡ positionAnswer Tx at (parseUnstarred s)
-  unfolding parseUnstarred
-  unstarred-some e = rw e
+  pub based-free : isBarred k s ≡ false → positionAnswer Cds at (parseBased s) ≡ positionAnswer Cds at (parseBasedFor k s)
+  unfolding parseBasedFor
+  based-free e = rw e
 
 -- ---- g, m
 module _ (at : ℕ) (s : List ℕ) (n : Number) (en : n ≡ numberAt Plain s) where

@@ -1,3 +1,4 @@
 pub mod Answer
+pub mod Forms
 pub mod Told
 pub mod Records

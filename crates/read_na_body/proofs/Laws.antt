@@ -1,28 +1,25 @@
 -- Laws of bodies: what is made of location and edit, and what reading one after the other answers.
 use Prim.Native.Nat.{ℕ, _+_, _-_, _≤_}
 use mathlib.Core.Path.{_≡_, sym, ap, _∙_}
-use mathlib.Core.List.{List, [], _∷_, _++_}
+use mathlib.Core.List.{List}
 use mathlib.Core.Option.{none, some}
-use mathlib.Core.Bool.{Bool, true, false, cond}
 use native.Mathlib.Omega.{arith}
-use lib.Dec.{eqb}
 use lib.ListN.{length, take, drop, length-append, length-drop}
 use borrow.Author.Tests.{eq-eqb, ne-eqb}
-use Rattle.texts.specs.Tests.{none-some}
 use Rattle.texts.specs.Slices.{tail-part, tail-at}
 use Rattle.alphabet.specs.Letters.{nucleotide}
 use Rattle.record.specs.declared.variant.Kind.{Kind}
-use Rattle.record.specs.declared.variant.Kind.the-variants.{Cds, Genome, Mt, Tx, Prot, Rna}
+use Rattle.record.specs.declared.variant.Kind.the-variants.{Cds, Genome, Mt, Tx, Rna}
 use Rattle.record.specs.declared.edits.MuNaEdit.{MuNaEdit}
 use Rattle.record.specs.declared.variant.Body.the-variants as Bo
-use Rattle.grammar.specs.Shapes.{Both, Both.both, printMu}
+use Rattle.grammar.specs.Shapes.{Both.both, printMu}
 use Rattle.grammar.specs.NucleotideEdits.{printNaEdit}
 use Rattle.grammar.specs.Bodies.{printLocation, printNaBody}
 use Rattle.grammar.specs.Records.{MuIntervalR}
 use Rattle.grammar.specs.Numbers.{muNumbers, endsNumbers, naEditNumbers, naBodyNumbers}
 use Rattle.lang.specs.Lang.{within}
-use Rattle.lang.specs.Whole.{whole, ended}
-use Rattle.lang.specs.BothLang.{parseBoth, first as firstPart, second}
+use Rattle.lang.specs.Whole.{whole}
+use Rattle.lang.specs.BothLang.{parseBoth}
 use Rattle.location.specs.Languages.{locationLang}
 use Rattle.na_edits.specs.Alphabet.{nucleotides}
 use Rattle.na_edits.specs.Brackets.{muNaEditLang}

@@ -1,6 +1,6 @@
 -- What the routines give for what was found: the record with its spans, its length, and the faults of its numbers.
 use Prim.Native.Nat.{ℕ, _+_}
-use mathlib.Core.Path.{_≡_, refl, ap}
+use mathlib.Core.Path.{_≡_, refl}
 use mathlib.Core.Option.{Option, none, some}
 use lib.ListN.{length}
 use Rattle.record.specs.declared.variant.Kind.{Kind}
@@ -9,7 +9,7 @@ use Rattle.record.specs.declared.edits.MuNaEdit.{MuNaEdit}
 use Rattle.record.specs.declared.variant.ProtLocEdit.the-variants.{Unknown}
 use Rattle.record.specs.declared.variant.Body as Record
 use Rattle.record.specs.declared.variant.Body.the-variants as Bo
-use Rattle.grammar.specs.Shapes.{Both, Both.both}
+use Rattle.grammar.specs.Shapes.{Both.both}
 use Rattle.grammar.specs.Bodies.{printLocation, NaBody, Body}
 use Rattle.grammar.specs.Records.{muNaEditAt, bodyAt}
 use Rattle.grammar.specs.Numbers.{naBodyNumbers, bodyNumbers}

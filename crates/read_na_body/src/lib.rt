@@ -15,6 +15,7 @@ use scan::Faults;
 ghost use mathlib.Core.Path.{_≡_};
 ghost use Prim.Native.Nat.{_+_, _≤_};
 ghost use lib.ListN.{length};
+ghost use Rattle.alphabet.specs.Cells.{IsTable};
 ghost use Rattle.alphabet.specs.Letters.{nucleotide};
 ghost use Rattle.lang.specs.Whole.{whole};
 ghost use Rattle.na_edits.specs.Alphabet.{nucleotides};
@@ -33,37 +34,38 @@ fn loc_edit(kind: Kind, l: Location, edit: MuNaEdit) -> Body
 {
     match kind {
         Kind::Cds => {
-            let loc = read_location::cds_interval(l);
+            let loc = location_record::cds_interval(l);
             Body::Cds(CdsLocEdit { loc, edit })
         }
         Kind::Genome => {
-            let loc = read_location::genome_interval(l);
+            let loc = location_record::genome_interval(l);
             Body::Genome(GenomeLocEdit { loc, edit })
         }
         Kind::Mt => {
-            let loc = read_location::mt_interval(l);
+            let loc = location_record::mt_interval(l);
             Body::Mt(MtLocEdit { loc, edit })
         }
         Kind::Tx => {
-            let loc = read_location::tx_interval(l);
+            let loc = location_record::tx_interval(l);
             Body::Tx(TxLocEdit { loc, edit })
         }
         Kind::Prot => Body::Prot(ProtLocEdit::Unknown),
         Kind::Rna => {
-            let loc = read_location::rna_interval(l);
+            let loc = location_record::rna_interval(l);
             Body::Rna(RnaLocEdit { loc, edit })
         }
     }
 }
 
-pub fn na_body(kind: Kind, s: &[u8], at: usize) -> BodyRead
-    requires { ⌜ at + length (now s) ≤ 4096 ⌝ }
+pub fn na_body(table: &[u8; 256], kind: Kind, s: &[u8], at: usize) -> BodyRead
+    requires { ⌜ (at + length (now s) ≤ 4096) × IsTable (now table) ⌝ }
     ensures { λ r. ⌜ r ≡ naAnswer kind at (whole (naBodyLang nucleotide nucleotides kind) (now (s .entry))) ⌝ }
 {
-    let LocationRead::Found(l, n, faults) = read_location::location_at(kind, s, at) else {
+    let LocationRead::Found(l, n, faults) = read_location::location_at(table, kind, s, at) else {
         return BodyRead::Nothing;
     };
-    let MuNaEditRead::Found(edit, m, later) = read_na_edit::mu_na_edit_at(&s[n..], at + n) else {
+    let MuNaEditRead::Found(edit, m, later) = read_na_edit::mu_na_edit_at(table, &s[n..], at + n)
+    else {
         return BodyRead::Nothing;
     };
     if n + m != s.len() {

@@ -10,6 +10,7 @@ ghost use mathlib.Core.Option.{some};
 ghost use Prim.Native.Nat.{_+_, _≤_};
 ghost use lib.ListN.{length};
 ghost use Rattle.texts.specs.Runs.{front, behind};
+ghost use Rattle.alphabet.specs.Cells.{IsTable};
 ghost use Rattle.alphabet.specs.Letters.{digit, nucleotide};
 ghost use Rattle.number.specs.declared.Sign.the-variants.{Plain};
 ghost use Rattle.number.specs.Reading.{numberAt};
@@ -33,11 +34,11 @@ pub enum MuNaEditRead {
 // In each routine `at` is where the edit starts in the whole text.
 
 // seq `=`
-fn ident(s: &[u8], at: usize) -> NaEditRead
-    requires { ⌜ at + length (now s) ≤ 4096 ⌝ }
+fn ident(table: &[u8; 256], s: &[u8], at: usize) -> NaEditRead
+    requires { ⌜ (at + length (now s) ≤ 4096) × IsTable (now table) ⌝ }
     ensures { λ r. ⌜ r ≡ naEditAnswer at (parseIdent nucleotide (now (s .entry))) ⌝ }
 {
-    let m = alphabet::run_of(Class::Nucleotide, s);
+    let m = alphabet::run_of(table, Class::Nucleotide, s);
     if scan::begins(&s[m..], b"=") {
         let seq = scan::span(at, m);
         return NaEditRead::Found(NaEdit::RefAlt(seq, seq), m + 1, scan::no_faults());
@@ -46,8 +47,8 @@ fn ident(s: &[u8], at: usize) -> NaEditRead
 }
 
 // letter `>` letter
-fn subst(s: &[u8], at: usize) -> NaEditRead
-    requires { ⌜ at + length (now s) ≤ 4096 ⌝ }
+fn subst(table: &[u8; 256], s: &[u8], at: usize) -> NaEditRead
+    requires { ⌜ (at + length (now s) ≤ 4096) × IsTable (now table) ⌝ }
     ensures { λ r. ⌜ r ≡ naEditAnswer at (parseSubst nucleotide (now (s .entry))) ⌝ }
 {
     if s.len() < 3 {
@@ -56,10 +57,10 @@ fn subst(s: &[u8], at: usize) -> NaEditRead
     if s[1] != b'>' {
         return NaEditRead::Nothing;
     }
-    if !alphabet::is_in(Class::Nucleotide, s[0]) {
+    if !alphabet::is_in(table, Class::Nucleotide, s[0]) {
         return NaEditRead::Nothing;
     }
-    if !alphabet::is_in(Class::Nucleotide, s[2]) {
+    if !alphabet::is_in(table, Class::Nucleotide, s[2]) {
         return NaEditRead::Nothing;
     }
     NaEditRead::Found(
@@ -70,22 +71,23 @@ fn subst(s: &[u8], at: usize) -> NaEditRead
 }
 
 // How many letters stand behind `ins`; 0 where there is no `ins`.
-fn inserted(s: &[u8]) -> usize
+fn inserted(table: &[u8; 256], s: &[u8]) -> usize
+    requires { ⌜ IsTable (now table) ⌝ }
     ensures { λ r. ⌜ r ≡ length (insertedLetters nucleotide (now (s .entry))) ⌝ }
 {
     if scan::begins(s, b"ins") {
-        return alphabet::run_of(Class::Nucleotide, &s[3..]);
+        return alphabet::run_of(table, Class::Nucleotide, &s[3..]);
     }
     0
 }
 
 // Behind `del`, where the number n stands: `ins` seq1, or nothing.
-fn after_del_num(s: &[u8], at: usize, n: Number) -> NaEditRead
-    requires { ⌜ (at + 3 + length (now s) ≤ 4096) × (n ≡ numberAt Plain (now s)) ⌝ }
+fn after_del_num(table: &[u8; 256], s: &[u8], at: usize, n: Number) -> NaEditRead
+    requires { ⌜ (at + 3 + length (now s) ≤ 4096) × (n ≡ numberAt Plain (now s)) × IsTable (now table) ⌝ }
     ensures { λ r. ⌜ r ≡ naEditAnswer at (some (afterDelNum nucleotide (front digit (now (s .entry))) (behind digit (now (s .entry))))) ⌝ }
 {
     let len = n.len;
-    let b = inserted(&s[len..]);
+    let b = inserted(table, &s[len..]);
     let faults = scan::faults_of(at + 3, n);
     if b == 0 {
         return NaEditRead::Found(NaEdit::DelNum(n.value), 3 + len, faults);
@@ -98,12 +100,12 @@ fn after_del_num(s: &[u8], at: usize, n: Number) -> NaEditRead
 }
 
 // Behind `del`: seq `ins` seq1, digits `ins` seq1, digits, or seq.
-fn after_del(s: &[u8], at: usize) -> NaEditRead
-    requires { ⌜ at + 3 + length (now s) ≤ 4096 ⌝ }
+fn after_del(table: &[u8; 256], s: &[u8], at: usize) -> NaEditRead
+    requires { ⌜ (at + 3 + length (now s) ≤ 4096) × IsTable (now table) ⌝ }
     ensures { λ r. ⌜ r ≡ naEditAnswer at (some (afterDel nucleotide (now (s .entry)))) ⌝ }
 {
-    let m = alphabet::run_of(Class::Nucleotide, s);
-    let b = inserted(&s[m..]);
+    let m = alphabet::run_of(table, Class::Nucleotide, s);
+    let b = inserted(table, &s[m..]);
     if b != 0 {
         return NaEditRead::Found(
             NaEdit::RefAlt(scan::span(at + 3, m), scan::span(at + 3 + m + 3, b)),
@@ -111,9 +113,9 @@ fn after_del(s: &[u8], at: usize) -> NaEditRead
             scan::no_faults(),
         );
     }
-    let n = number::number_at(s, Sign::Plain);
+    let n = number::number_at(table, s, Sign::Plain);
     if n.len != 0 {
-        return after_del_num(s, at, n);
+        return after_del_num(table, s, at, n);
     }
     NaEditRead::Found(
         NaEdit::DelRef(scan::span(at + 3, m)),
@@ -122,22 +124,22 @@ fn after_del(s: &[u8], at: usize) -> NaEditRead
     )
 }
 
-fn del(s: &[u8], at: usize) -> NaEditRead
-    requires { ⌜ at + length (now s) ≤ 4096 ⌝ }
+fn del(table: &[u8; 256], s: &[u8], at: usize) -> NaEditRead
+    requires { ⌜ (at + length (now s) ≤ 4096) × IsTable (now table) ⌝ }
     ensures { λ r. ⌜ r ≡ naEditAnswer at (parseDel nucleotide (now (s .entry))) ⌝ }
 {
     if scan::begins(s, b"del") {
-        return after_del(&s[3..], at);
+        return after_del(table, &s[3..], at);
     }
     NaEditRead::Nothing
 }
 
 // `ins` seq1
-fn ins(s: &[u8], at: usize) -> NaEditRead
-    requires { ⌜ at + length (now s) ≤ 4096 ⌝ }
+fn ins(table: &[u8; 256], s: &[u8], at: usize) -> NaEditRead
+    requires { ⌜ (at + length (now s) ≤ 4096) × IsTable (now table) ⌝ }
     ensures { λ r. ⌜ r ≡ naEditAnswer at (parseIns nucleotide (now (s .entry))) ⌝ }
 {
-    let m = inserted(s);
+    let m = inserted(table, s);
     if m == 0 {
         return NaEditRead::Nothing;
     }
@@ -145,28 +147,28 @@ fn ins(s: &[u8], at: usize) -> NaEditRead
 }
 
 // `dup` seq
-fn dup(s: &[u8], at: usize) -> NaEditRead
-    requires { ⌜ at + length (now s) ≤ 4096 ⌝ }
+fn dup(table: &[u8; 256], s: &[u8], at: usize) -> NaEditRead
+    requires { ⌜ (at + length (now s) ≤ 4096) × IsTable (now table) ⌝ }
     ensures { λ r. ⌜ r ≡ naEditAnswer at (parseDup nucleotide (now (s .entry))) ⌝ }
 {
     if scan::begins(s, b"dup") {
-        let m = alphabet::run_of(Class::Nucleotide, &s[3..]);
+        let m = alphabet::run_of(table, Class::Nucleotide, &s[3..]);
         return NaEditRead::Found(NaEdit::Dup(scan::span(at + 3, m)), 3 + m, scan::no_faults());
     }
     NaEditRead::Nothing
 }
 
 // Behind `inv`: digits, or seq.
-fn after_inv(s: &[u8], at: usize) -> NaEditRead
-    requires { ⌜ at + 3 + length (now s) ≤ 4096 ⌝ }
+fn after_inv(table: &[u8; 256], s: &[u8], at: usize) -> NaEditRead
+    requires { ⌜ (at + 3 + length (now s) ≤ 4096) × IsTable (now table) ⌝ }
     ensures { λ r. ⌜ r ≡ naEditAnswer at (some (afterInv nucleotide (now (s .entry)))) ⌝ }
 {
-    let n = number::number_at(s, Sign::Plain);
+    let n = number::number_at(table, s, Sign::Plain);
     let len = n.len;
     if len != 0 {
         return NaEditRead::Found(NaEdit::InvNum(n.value), 3 + len, scan::faults_of(at + 3, n));
     }
-    let m = alphabet::run_of(Class::Nucleotide, s);
+    let m = alphabet::run_of(table, Class::Nucleotide, s);
     NaEditRead::Found(
         NaEdit::InvRef(scan::span(at + 3, m)),
         3 + m,
@@ -174,69 +176,59 @@ fn after_inv(s: &[u8], at: usize) -> NaEditRead
     )
 }
 
-fn inv(s: &[u8], at: usize) -> NaEditRead
-    requires { ⌜ at + length (now s) ≤ 4096 ⌝ }
+fn inv(table: &[u8; 256], s: &[u8], at: usize) -> NaEditRead
+    requires { ⌜ (at + length (now s) ≤ 4096) × IsTable (now table) ⌝ }
     ensures { λ r. ⌜ r ≡ naEditAnswer at (parseInv nucleotide (now (s .entry))) ⌝ }
 {
     if scan::begins(s, b"inv") {
-        return after_inv(&s[3..], at);
+        return after_inv(table, &s[3..], at);
     }
     NaEditRead::Nothing
 }
 
 // The edit at the front of s: the alternatives in the crate's order.
-pub fn na_edit_at(s: &[u8], at: usize) -> NaEditRead
-    requires { ⌜ at + length (now s) ≤ 4096 ⌝ }
+pub fn na_edit_at(table: &[u8; 256], s: &[u8], at: usize) -> NaEditRead
+    requires { ⌜ (at + length (now s) ≤ 4096) × IsTable (now table) ⌝ }
     ensures { λ r. ⌜ r ≡ naEditAnswer at (naEditLang nucleotide nucleotides .parse (now (s .entry))) ⌝ }
 {
-    let first = ident(s, at);
+    let first = ident(table, s, at);
     let NaEditRead::Nothing = first else {
         return first;
     };
-    let second = subst(s, at);
+    let second = subst(table, s, at);
     let NaEditRead::Nothing = second else {
         return second;
     };
-    let third = del(s, at);
+    let third = del(table, s, at);
     let NaEditRead::Nothing = third else {
         return third;
     };
-    let fourth = ins(s, at);
+    let fourth = ins(table, s, at);
     let NaEditRead::Nothing = fourth else {
         return fourth;
     };
-    let fifth = dup(s, at);
+    let fifth = dup(table, s, at);
     let NaEditRead::Nothing = fifth else {
         return fifth;
     };
-    inv(s, at)
+    inv(table, s, at)
 }
 
 // The edit at the front of s, in round brackets or not.
-pub fn mu_na_edit_at(s: &[u8], at: usize) -> MuNaEditRead
-    requires { ⌜ at + length (now s) ≤ 4096 ⌝ }
+pub fn mu_na_edit_at(table: &[u8; 256], s: &[u8], at: usize) -> MuNaEditRead
+    requires { ⌜ (at + length (now s) ≤ 4096) × IsTable (now table) ⌝ }
     ensures { λ r. ⌜ r ≡ muNaEditAnswer at (muNaEditLang nucleotide nucleotides .parse (now (s .entry))) ⌝ }
 {
-    if scan::begins(s, b"(") {
-        match na_edit_at(&s[1..], at + 1) {
-            NaEditRead::Nothing => MuNaEditRead::Nothing,
-            NaEditRead::Found(e, len, faults) => {
-                let k = 1 + len;
-                if scan::begins(&s[k..], b")") {
-                    MuNaEditRead::Found(MuNaEdit::Uncertain(e), k + 1, faults)
-                } else {
-                    MuNaEditRead::Nothing
-                }
-            }
-        }
-    } else {
-        match na_edit_at(s, at) {
-            NaEditRead::Nothing => MuNaEditRead::Nothing,
-            NaEditRead::Found(e, len, faults) => MuNaEditRead::Found(
-                MuNaEdit::Certain(e),
-                len,
-                faults,
-            ),
-        }
+    let a = scan::opening(s);
+    let NaEditRead::Found(e, n, faults) = na_edit_at(table, &s[a..], at + a) else {
+        return MuNaEditRead::Nothing;
+    };
+    if a == 0 {
+        return MuNaEditRead::Found(MuNaEdit::Certain(e), n, faults);
     }
+    let k = a + n;
+    if !scan::begins(&s[k..], b")") {
+        return MuNaEditRead::Nothing;
+    }
+    MuNaEditRead::Found(MuNaEdit::Uncertain(e), k + 1, faults)
 }

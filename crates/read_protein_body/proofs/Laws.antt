@@ -5,7 +5,6 @@ use mathlib.Core.List.{List, [], _∷_, _++_}
 use mathlib.Core.Option.{Option, none, some}
 use mathlib.Core.Bool.{Bool, true, false, cond}
 use native.Mathlib.Omega.{arith}
-use lib.Dec.{eqb}
 use lib.ListN.{length, take, drop, length-append, length-drop}
 use borrow.Author.Tests.{eq-eqb, ne-eqb}
 use Rattle.texts.specs.Ascii.{ascii}
@@ -18,9 +17,9 @@ use Rattle.record.specs.declared.edits.ProteinEdit as Record
 use Rattle.record.specs.declared.variant.ProtLocEdit.{ProtLocEdit}
 use Rattle.record.specs.declared.variant.ProtLocEdit.the-variants.{Ordinary}
 use Rattle.record.specs.declared.variant.Body.the-variants as Bo
-use Rattle.grammar.specs.Shapes.{Mu, Mu.certain, Mu.uncertain, Both, Both.both, printMu}
+use Rattle.grammar.specs.Shapes.{Mu, Mu.certain, Mu.uncertain, Both.both, printMu}
 use Rattle.grammar.specs.ProteinEdits.{ProteinEdit, printProteinEdit}
-use Rattle.grammar.specs.Bodies.{printEnds, ProteinBody, ProteinBody.met1, ProteinBody.bracketedMet1, ProteinBody.noProteinUncertain, ProteinBody.noProtein, ProteinBody.noChangeUncertain, ProteinBody.noChange, ProteinBody.unknown, ProteinBody.change, ProteinBody.bracketed, printProteinBody}
+use Rattle.grammar.specs.Bodies.{printEnds, ProteinBody, ProteinBody.change, ProteinBody.bracketed, printProteinBody}
 use Rattle.grammar.specs.Records.{intervalAt, locationAt, uncertainly, proteinEditAt, proteinBodyAt}
 use Rattle.grammar.specs.Numbers.{muNumbers, endsNumbers, proteinEditNumbers, proteinBodyNumbers}
 use Rattle.lang.specs.Answer.{by-answer}
@@ -33,17 +32,15 @@ use Rattle.scan.specs.declared.Faults.{Faults}
 use Rattle.scan.specs.Faults.{faults, first, faults-append, faults-nil, none as noFaults}
 use Rattle.read_location.specs.declared.Location.{Location}
 use Rattle.read_location.specs.declared.LocationRead.the-variants as LR
-use Rattle.read_location.specs.Answer.{intervalOf, uncertainOf, intervalAnswer}
+use Rattle.read_location.specs.Answer.{uncertainOf, intervalAnswer}
 use Rattle.read_location.specs.Records.{locationFor, location-for, uncertain-for}
 use Rattle.read_location.specs.Told.{IntervalTold, interval-unread, interval-within}
 use Rattle.read_protein_edit.specs.declared.ProteinEditRead.the-variants as PR
 use Rattle.read_protein_edit.specs.declared.MuProteinEditRead.the-variants as MR
 use Rattle.read_protein_edit.specs.Answer.{proteinEditAnswer, muProteinEditAnswer}
 use Rattle.read_protein_edit.specs.Told.{EditTold, MuTold, edit-unread, mu-unread}
-use Rattle.read_na_body.specs.declared.BodyRead.{BodyRead}
 use Rattle.read_na_body.specs.declared.BodyRead.the-variants as BR
 use Rattle.read_na_body.specs.Answer.{bodyAnswer}
-use Rattle.read_protein_body.specs.declared.ExactRead.{ExactRead}
 use Rattle.read_protein_body.specs.declared.ExactRead.the-variants as ER
 use Rattle.read_protein_body.specs.declared.OrdinaryRead.{OrdinaryRead}
 use Rattle.read_protein_body.specs.declared.OrdinaryRead.the-variants as OR

@@ -13,6 +13,7 @@ ghost use mathlib.Core.Path.{_≡_};
 ghost use Prim.Native.Nat.{_+_, _≤_};
 ghost use lib.ListN.{length};
 ghost use Rattle.texts.specs.Words.{same};
+ghost use Rattle.alphabet.specs.Cells.{IsTable};
 ghost use Rattle.protein_edits.specs.Instance.{proteinEditLang, muProteinEditLang};
 ghost use Rattle.bodies.specs.ProteinBodies.{exactBodies, firstExact, parsePlain, parseOpened, parseOrdinary, parseProteinBody};
 ghost use Rattle.record.specs.declared.variant.Kind.the-variants.{Prot};
@@ -67,15 +68,25 @@ fn exact(s: &[u8]) -> ExactRead
 }
 
 // The edit behind a location of n bytes; s starts at `at`.
-fn after_location(l: Location, n: usize, faults: Faults, s: &[u8], at: usize) -> OrdinaryRead
-    requires { ⌜ (at + length (now s) ≤ 4096) × (n ≤ 4096) ⌝ }
+fn after_location(
+    table: &[u8; 256],
+    l: Location,
+    n: usize,
+    faults: Faults,
+    s: &[u8],
+    at: usize,
+) -> OrdinaryRead
+    requires { ⌜ (at + length (now s) ≤ 4096) × (n ≤ 4096) × IsTable (now table) ⌝ }
     ensures { λ r. ⌜ r ≡ afterAnswer l n faults at (muProteinEditLang .parse (now (s .entry))) ⌝ }
 {
-    let MuProteinEditRead::Found(edit, m, later) = read_protein_edit::mu_protein_edit_at(s, at)
-    else {
+    let MuProteinEditRead::Found(edit, m, later) = read_protein_edit::mu_protein_edit_at(
+        table,
+        s,
+        at,
+    ) else {
         return OrdinaryRead::Nothing;
     };
-    let loc = read_location::prot_interval(l);
+    let loc = location_record::prot_interval(l);
     OrdinaryRead::Found(
         ProtLocEdit::Ordinary(loc, edit),
         n + m,
@@ -84,17 +95,25 @@ fn after_location(l: Location, n: usize, faults: Faults, s: &[u8], at: usize) ->
 }
 
 // Inside one pair of brackets: the edit behind an interval of n bytes, and the closing bracket.
-fn inside_brackets(l: Location, n: usize, faults: Faults, s: &[u8], at: usize) -> OrdinaryRead
-    requires { ⌜ (at + length (now s) ≤ 4096) × (n ≤ 4096) ⌝ }
+fn inside_brackets(
+    table: &[u8; 256],
+    l: Location,
+    n: usize,
+    faults: Faults,
+    s: &[u8],
+    at: usize,
+) -> OrdinaryRead
+    requires { ⌜ (at + length (now s) ≤ 4096) × (n ≤ 4096) × IsTable (now table) ⌝ }
     ensures { λ r. ⌜ r ≡ insideAnswer l n faults at (now (s .entry)) (proteinEditLang .parse (now (s .entry))) ⌝ }
 {
-    let ProteinEditRead::Found(edit, m, later) = read_protein_edit::protein_edit_at(s, at) else {
+    let ProteinEditRead::Found(edit, m, later) = read_protein_edit::protein_edit_at(table, s, at)
+    else {
         return OrdinaryRead::Nothing;
     };
     if !scan::begins(&s[m..], b")") {
         return OrdinaryRead::Nothing;
     }
-    let loc = read_location::prot_interval(read_location::uncertain(l));
+    let loc = location_record::prot_interval(read_location::uncertain(l));
     OrdinaryRead::Found(
         ProtLocEdit::Ordinary(loc, MuProteinEdit::Uncertain(edit)),
         1 + n + m + 1,
@@ -103,17 +122,19 @@ fn inside_brackets(l: Location, n: usize, faults: Faults, s: &[u8], at: usize) -
 }
 
 // Behind the opening bracket, which stands at `at`.
-fn opened(s: &[u8], at: usize) -> OrdinaryRead
-    requires { ⌜ at + 1 + length (now s) ≤ 4096 ⌝ }
+fn opened(table: &[u8; 256], s: &[u8], at: usize) -> OrdinaryRead
+    requires { ⌜ (at + 1 + length (now s) ≤ 4096) × IsTable (now table) ⌝ }
     ensures { λ r. ⌜ r ≡ ordinaryAnswer at (parseOpened (now (s .entry))) ⌝ }
 {
-    let LocationRead::Found(l, n, faults) = read_location::interval_at(Kind::Prot, s, at + 1) else {
+    let LocationRead::Found(l, n, faults) = read_location::interval_at(table, Kind::Prot, s, at + 1)
+    else {
         return OrdinaryRead::Nothing;
     };
     if scan::begins(&s[n..], b")") {
         let k = n + 1;
         let behind = 1 + k;
         return after_location(
+            table,
             read_location::uncertain(l),
             behind,
             faults,
@@ -121,37 +142,38 @@ fn opened(s: &[u8], at: usize) -> OrdinaryRead
             at + behind,
         );
     }
-    inside_brackets(l, n, faults, &s[n..], at + 1 + n)
+    inside_brackets(table, l, n, faults, &s[n..], at + 1 + n)
 }
 
-fn plain(s: &[u8], at: usize) -> OrdinaryRead
-    requires { ⌜ at + length (now s) ≤ 4096 ⌝ }
+fn plain(table: &[u8; 256], s: &[u8], at: usize) -> OrdinaryRead
+    requires { ⌜ (at + length (now s) ≤ 4096) × IsTable (now table) ⌝ }
     ensures { λ r. ⌜ r ≡ ordinaryAnswer at (parsePlain (now (s .entry))) ⌝ }
 {
-    let LocationRead::Found(l, n, faults) = read_location::interval_at(Kind::Prot, s, at) else {
+    let LocationRead::Found(l, n, faults) = read_location::interval_at(table, Kind::Prot, s, at)
+    else {
         return OrdinaryRead::Nothing;
     };
-    after_location(l, n, faults, &s[n..], at + n)
+    after_location(table, l, n, faults, &s[n..], at + n)
 }
 
-fn ordinary(s: &[u8], at: usize) -> OrdinaryRead
-    requires { ⌜ at + length (now s) ≤ 4096 ⌝ }
+fn ordinary(table: &[u8; 256], s: &[u8], at: usize) -> OrdinaryRead
+    requires { ⌜ (at + length (now s) ≤ 4096) × IsTable (now table) ⌝ }
     ensures { λ r. ⌜ r ≡ ordinaryAnswer at (parseOrdinary (now (s .entry))) ⌝ }
 {
     if scan::begins(s, b"(") {
-        return opened(&s[1..], at);
+        return opened(table, &s[1..], at);
     }
-    plain(s, at)
+    plain(table, s, at)
 }
 
-pub fn prot_body(s: &[u8], at: usize) -> BodyRead
-    requires { ⌜ at + length (now s) ≤ 4096 ⌝ }
+pub fn prot_body(table: &[u8; 256], s: &[u8], at: usize) -> BodyRead
+    requires { ⌜ (at + length (now s) ≤ 4096) × IsTable (now table) ⌝ }
     ensures { λ r. ⌜ r ≡ bodyAnswer Prot at (parseProteinBody (now (s .entry))) ⌝ }
 {
     if let ExactRead::Found(b) = exact(s) {
         return BodyRead::Found(Body::Prot(b), scan::no_faults());
     }
-    let OrdinaryRead::Found(b, n, faults) = ordinary(s, at) else {
+    let OrdinaryRead::Found(b, n, faults) = ordinary(table, s, at) else {
         return BodyRead::Nothing;
     };
     if n != s.len() {

@@ -12,7 +12,7 @@ use lib.ListN.{length, take, drop, length-append, length-drop}
 use lib.Seq.{length-take-le}
 use borrow.Author.Tests.{eq-eqb, ne-eqb}
 use Rattle.texts.specs.Ascii.{ascii}
-use Rattle.texts.specs.Slices.{tail-part}
+use Rattle.texts.specs.Slices.{tail, tail-part}
 use Rattle.texts.specs.Runs.{run, front}
 use Rattle.texts.specs.Words.{starts, starts-length}
 use Rattle.alphabet.specs.Letters.{digit}
@@ -169,10 +169,6 @@ pub bytes-length : (n : ℕ) (s : List ℕ) → n ≤ length s → length (print
 bytes-length n s h = ap length (bytes-print n s) ∙ length-take-le n s h
 
 -- ---- behind `ext`: a residue of m bytes, and what is behind it
--- `&s[k..]`
-abbrev pub tail : ℕ → List ℕ → List ℕ
-tail k s = take (length s - k) (drop k s)
-
 -- behind the residue and `-`
 abbrev digitsOf : ℕ → List ℕ → List ℕ
 digitsOf m s = drop 1 (drop m s)

@@ -8,7 +8,7 @@ use native.Mathlib.Omega.{arith}
 use lib.ListN.{length, take, drop, length-append, length-drop}
 use lib.Seq.{length-take-le}
 use Rattle.texts.specs.Ascii.{ascii}
-use Rattle.texts.specs.Slices.{tail-part, tail-room}
+use Rattle.texts.specs.Slices.{tail, tail-part, tail-room}
 use Rattle.texts.specs.Words.{starts, starts-length}
 use Rattle.residue.specs.Reading.{residueLen, residuesLen}
 use Rattle.residue.specs.Laws.{residue-le, residues-le}
@@ -26,7 +26,7 @@ use Rattle.protein_edits.specs.Complete.{bytes-some}
 use Rattle.read_protein_edit.specs.declared.ProteinEditRead.{ProteinEditRead}
 use Rattle.read_protein_edit.specs.declared.ProteinEditRead.the-variants.{Nothing, Found}
 use Rattle.read_protein_edit.specs.Answer.{proteinEditAnswer, fsRead, extRead}
-use Rattle.read_protein_edit.proofs.Ends.{tail, bytes-part, bytes-length}
+use Rattle.read_protein_edit.proofs.Ends.{bytes-part, bytes-length}
 
 -- a tree without numbers
 found : (k : ℕ) (t : ProteinEdit) (r : D.ProteinEdit) (n : ℕ) (f : Faults) → r ≡ proteinEditAt k t → n ≡ length (printProteinEdit t) → proteinEditNumbers k t ≡ [] → f ≡ noFault

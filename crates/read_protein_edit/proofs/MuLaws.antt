@@ -1,19 +1,21 @@
--- From the answer for the edit behind a bracket, or at the front, to the answer for the edit in brackets or not.
+-- From the answer for the edit behind a bracket, or at the front where there is none, to the answer for the edit in brackets or not.
 use Prim.Native.Nat.{ℕ, _+_, _≤_}
-use mathlib.Core.Path.{_≡_, ap}
+use mathlib.Core.Path.{_≡_, ap, _∙_}
 use mathlib.Core.List.{List}
 use mathlib.Core.Option.{none, some}
 use mathlib.Core.Bool.{true, false}
+use native.Mathlib.Nat.{add-zero}
 use lib.ListN.{length, drop}
 use Rattle.texts.specs.Ascii.{ascii}
-use Rattle.texts.specs.Slices.{tail-part}
+use Rattle.texts.specs.Slices.{tail, tail-part}
 use Rattle.texts.specs.Words.{starts}
+use Rattle.texts.specs.Brackets.{opening}
 use Rattle.record.specs.declared.edits.ProteinEdit as D
 use Rattle.record.specs.declared.edits.MuProteinEdit.{MuProteinEdit}
 use Rattle.record.specs.declared.edits.MuProteinEdit.the-variants.{Certain, Uncertain}
 use Rattle.grammar.specs.Shapes.{Mu, Mu.certain, Mu.uncertain, printMu}
 use Rattle.grammar.specs.ProteinEdits.{ProteinEdit, printProteinEdit}
-use Rattle.grammar.specs.Records.{muProteinEditAt}
+use Rattle.grammar.specs.Records.{proteinEditAt, muProteinEditAt}
 use Rattle.grammar.specs.Numbers.{proteinEditNumbers, muNumbers}
 use Rattle.lang.specs.MuLang.{parseMu}
 use Rattle.lang.specs.MuReading as Reading
@@ -26,9 +28,9 @@ use Rattle.read_protein_edit.specs.declared.MuProteinEditRead.{MuProtein
 use Rattle.read_protein_edit.specs.declared.MuProteinEditRead.the-variants as Mus
 use Rattle.read_protein_edit.specs.Answer.{proteinEditAnswer, muProteinEditAnswer}
 use Rattle.read_protein_edit.specs.Told.{EditTold, edit-told, edit-unread}
-use Rattle.read_protein_edit.proofs.Ends.{tail}
 
-module _ (k : ℕ) (s : List ℕ) where
+-- a is how long the opening bracket is
+module _ (k : ℕ) (s : List ℕ) (a : ℕ) (ea : a ≡ opening s) where
   abbrev Answered : MuProteinEditRead → Type 0
   Answered r = r ≡ muProteinEditAnswer k (parseMu proteinEditLang s)
 
@@ -41,38 +43,36 @@ module _ (k : ℕ) (s : List ℕ) where
   unfolding muProteinEditAnswer
   found t r n f e er en ef = rw (e, er, en, ef)
 
-  -- no bracket
-  module _ (h : starts (ascii "(") s ≡ false) where
-    pub bare-none : Nothing ≡ proteinEditAnswer k (parse s) → Answered Mus.Nothing
-    bare-none e = nothing (Reading.bare-none proteinEditLang s h (edit-unread k s e))
+  pub mu-none : Nothing ≡ proteinEditAnswer (k + a) (parse (tail a s)) → Answered Mus.Nothing
+  mu-none e = nothing (Reading.mu-none proteinEditLang s a ea (edit-unread (k + a) (drop a s) (rw (tail-part a s) at e)))
 
-    pub bare-some : (r : D.ProteinEdit) (n : ℕ) (f : Faults) → Found r n f ≡ proteinEditAnswer k (parse s) → Answered (Mus.Found (Certain r) n f)
-    bare-some r n f e =
-        let t = edit-told k s r n f e in
-        found (certain (t .tree)) (Certain r) n f (Reading.bare-some proteinEditLang s h (t .tree) (t .parsed)) (ap Certain (t .means)) (t .long) (t .wrong)
+  module _ (r : D.ProteinEdit) (n : ℕ) (f : Faults) (e : Found r n f ≡ proteinEditAnswer (k + a) (parse (tail a s))) where
+    inner : EditTold (k + a) (drop a s) r n f
+    inner = edit-told (k + a) (drop a s) r n f (rw (tail-part a s) at e)
 
-  -- a bracket
-  module _ (h : starts (ascii "(") s ≡ true) where
-    pub open-none : Nothing ≡ proteinEditAnswer (k + 1) (parse (tail 1 s)) → Answered Mus.Nothing
-    open-none e = nothing (Reading.open-none proteinEditLang s h (edit-unread (k + 1) (drop 1 s) (rw (tail-part 1 s) at e)))
+    pub mu-le : a + n ≤ length s
+    mu-le = Reading.mu-le proteinEditLang s a ea (inner .tree) n (inner .parsed) (inner .long)
 
-    module _ (r : D.ProteinEdit) (n : ℕ) (f : Faults) (e : Found r n f ≡ proteinEditAnswer (k + 1) (parse (tail 1 s))) where
-      inner : EditTold (k + 1) (drop 1 s) r n f
-      inner = edit-told (k + 1) (drop 1 s) r n f (rw (tail-part 1 s) at e)
+    pub mu-bare : a ≡ 0 → Answered (Mus.Found (Certain r) n f)
+    mu-bare z =
+        let place : k + a ≡ k = rw z (add-zero k) in
+        found (certain (inner .tree)) (Certain r) n f (Reading.mu-bare proteinEditLang s a ea (inner .tree) n (inner .parsed) (inner .long) z)
+        (ap Certain (inner .means ∙ ap (λ (i : ℕ). proteinEditAt i (inner .tree)) place))
+        (inner .long)
+        (inner .wrong ∙ ap (λ (i : ℕ). faults (proteinEditNumbers i (inner .tree))) place)
 
-      pub open-le : 1 + n ≤ length s
-      open-le = Reading.open-le proteinEditLang s h (inner .tree) n (inner .parsed) (inner .long)
+    pub mu-room : starts (ascii ")") (tail (a + n) s) ≡ true → a + n + 1 ≤ length s
+    mu-room q = Reading.mu-room proteinEditLang s a ea (inner .tree) n (inner .parsed) (inner .long) (rw (tail-part (a + n) s) at q)
 
-      pub open-shut : starts (ascii ")") (tail (1 + n) s) ≡ true → Answered (Mus.Found (Uncertain r) (1 + n + 1) f)
-      open-shut q =
-          found (uncertain (inner .tree)) (Uncertain r) (1 + n + 1) f
-          (Reading.open-shut proteinEditLang s h (inner .tree) n (inner .parsed) (inner .long) (rw (tail-part (1 + n) s) at q))
-          (ap Uncertain (inner .means))
-          (Reading.open-length proteinEditLang s h (inner .tree) n (inner .parsed) (inner .long))
-          (inner .wrong)
+    module _ (z : a ≡ 0 → ⊥) where
+      pub mu-shut : starts (ascii ")") (tail (a + n) s) ≡ true → Answered (Mus.Found (Uncertain r) (a + n + 1) f)
+      mu-shut q =
+          let place = Reading.mu-place proteinEditLang s a ea (inner .tree) n (inner .parsed) (inner .long) z k in
+          found (uncertain (inner .tree)) (Uncertain r) (a + n + 1) f
+          (Reading.mu-shut proteinEditLang s a ea (inner .tree) n (inner .parsed) (inner .long) z (rw (tail-part (a + n) s) at q))
+          (ap Uncertain (inner .means ∙ ap (λ (i : ℕ). proteinEditAt i (inner .tree)) place))
+          (Reading.mu-length proteinEditLang s a ea (inner .tree) n (inner .parsed) (inner .long) z)
+          (inner .wrong ∙ ap (λ (i : ℕ). faults (proteinEditNumbers i (inner .tree))) place)
 
-      pub open-left : starts (ascii ")") (tail (1 + n) s) ≡ false → Answered Mus.Nothing
-      open-left q = nothing (Reading.open-left proteinEditLang s h (inner .tree) n (inner .parsed) (inner .long) (rw (tail-part (1 + n) s) at q))
-
-      pub open-room : starts (ascii ")") (tail (1 + n) s) ≡ true → 1 + n + 1 ≤ length s
-      open-room q = Reading.open-room proteinEditLang s h (inner .tree) n (inner .parsed) (inner .long) (rw (tail-part (1 + n) s) at q)
+      pub mu-left : starts (ascii ")") (tail (a + n) s) ≡ false → Answered Mus.Nothing
+      mu-left q = nothing (Reading.mu-left proteinEditLang s a ea (inner .tree) n (inner .parsed) (inner .long) z (rw (tail-part (a + n) s) at q))

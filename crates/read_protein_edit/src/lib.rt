@@ -8,6 +8,7 @@ use scan::Faults;
 ghost use mathlib.Core.Path.{_≡_};
 ghost use Prim.Native.Nat.{_+_, _≤_};
 ghost use lib.ListN.{length};
+ghost use Rattle.alphabet.specs.Cells.{IsTable};
 ghost use Rattle.protein_edits.specs.Parse.{terminalAt, lengthAt, stopAt, earlierAt, laterOf, extEndAt, residuesBehind, wordedAt};
 ghost use Rattle.protein_edits.specs.Instance.{proteinEditLang, muProteinEditLang};
 ghost use Rattle.read_protein_edit.specs.Answer.{proteinEditAnswer, muProteinEditAnswer, terminalLen, lengthRead, stopRead, residuePart, fsRead, extRead, earlierRead};
@@ -54,10 +55,11 @@ fn terminal_at(s: &[u8]) -> usize
 }
 
 // Behind a terminal: digits, `?` or nothing.
-fn length_at(s: &[u8], at: usize) -> LengthRead
+fn length_at(table: &[u8; 256], s: &[u8], at: usize) -> LengthRead
+    requires { ⌜ IsTable (now table) ⌝ }
     ensures { λ r. ⌜ r ≡ lengthRead at (lengthAt (now (s .entry))) ⌝ }
 {
-    let n = number::number_at(s, Sign::Plain);
+    let n = number::number_at(table, s, Sign::Plain);
     if n.len != 0 {
         return LengthRead {
             change: UncertainLengthChange::Known(n.value),
@@ -79,8 +81,8 @@ fn length_at(s: &[u8], at: usize) -> LengthRead
     }
 }
 
-fn stop_at(s: &[u8], at: usize) -> StopRead
-    requires { ⌜ at + length (now s) ≤ 4096 ⌝ }
+fn stop_at(table: &[u8; 256], s: &[u8], at: usize) -> StopRead
+    requires { ⌜ (at + length (now s) ≤ 4096) × IsTable (now table) ⌝ }
     ensures { λ r. ⌜ r ≡ stopRead at (stopAt (now (s .entry))) ⌝ }
 {
     let t = terminal_at(s);
@@ -92,7 +94,7 @@ fn stop_at(s: &[u8], at: usize) -> StopRead
             faults: scan::no_faults(),
         };
     }
-    let n = length_at(&s[t..], at + t);
+    let n = length_at(table, &s[t..], at + t);
     let change = n.change;
     let faults = n.faults;
     StopRead {
@@ -116,11 +118,11 @@ fn residue_part(at: usize, n: usize) -> Part
 }
 
 // Behind the word `fs` of an edit that starts at `at`, with a residue of n bytes before the word.
-fn fs(s: &[u8], at: usize, n: usize) -> ProteinEditRead
-    requires { ⌜ at + n + 2 + length (now s) ≤ 4096 ⌝ }
+fn fs(table: &[u8; 256], s: &[u8], at: usize, n: usize) -> ProteinEditRead
+    requires { ⌜ (at + n + 2 + length (now s) ≤ 4096) × IsTable (now table) ⌝ }
     ensures { λ r. ⌜ r ≡ fsRead at n (stopAt (now (s .entry))) ⌝ }
 {
-    let e = stop_at(s, at + n + 2);
+    let e = stop_at(table, s, at + n + 2);
     let terminal = e.terminal;
     let change = e.change;
     let faults = e.faults;
@@ -132,16 +134,16 @@ fn fs(s: &[u8], at: usize, n: usize) -> ProteinEditRead
 }
 
 // Behind the word `ext`: an optional residue with `-` and digits.
-fn ext_neg_shift(s: &[u8], at: usize, n: usize) -> ProteinEditRead
-    requires { ⌜ at + n + 3 + length (now s) ≤ 4096 ⌝ }
+fn ext_neg_shift(table: &[u8; 256], s: &[u8], at: usize, n: usize) -> ProteinEditRead
+    requires { ⌜ (at + n + 3 + length (now s) ≤ 4096) × IsTable (now table) ⌝ }
     ensures { λ r. ⌜ r ≡ earlierRead at n (earlierAt (now (s .entry))) ⌝ }
 {
-    let m = residue::residue_at(s);
+    let m = residue::residue_at(table, s);
     let rest = &s[m..];
     if !scan::begins(rest, b"-") {
         return ProteinEditRead::Nothing;
     }
-    let d = number::number_at(&rest[1..], Sign::Negated);
+    let d = number::number_at(table, &rest[1..], Sign::Negated);
     if d.len == 0 {
         return ProteinEditRead::Nothing;
     }
@@ -158,11 +160,11 @@ fn ext_neg_shift(s: &[u8], at: usize, n: usize) -> ProteinEditRead
 }
 
 // Behind the word `ext`: a terminal, or nothing (the crate's `ext_minimal`).
-fn ext_pos_shift(s: &[u8], at: usize, n: usize) -> ProteinEditRead
-    requires { ⌜ at + n + 3 + length (now s) ≤ 4096 ⌝ }
+fn ext_pos_shift(table: &[u8; 256], s: &[u8], at: usize, n: usize) -> ProteinEditRead
+    requires { ⌜ (at + n + 3 + length (now s) ≤ 4096) × IsTable (now table) ⌝ }
     ensures { λ r. ⌜ r ≡ extRead at n (laterOf (stopAt (now (s .entry)))) ⌝ }
 {
-    let e = stop_at(s, at + n + 3);
+    let e = stop_at(table, s, at + n + 3);
     let terminal = e.terminal;
     let change = e.change;
     let faults = e.faults;
@@ -173,34 +175,35 @@ fn ext_pos_shift(s: &[u8], at: usize, n: usize) -> ProteinEditRead
     )
 }
 
-fn ext(s: &[u8], at: usize, n: usize) -> ProteinEditRead
-    requires { ⌜ at + n + 3 + length (now s) ≤ 4096 ⌝ }
+fn ext(table: &[u8; 256], s: &[u8], at: usize, n: usize) -> ProteinEditRead
+    requires { ⌜ (at + n + 3 + length (now s) ≤ 4096) × IsTable (now table) ⌝ }
     ensures { λ r. ⌜ r ≡ extRead at n (extEndAt (now (s .entry))) ⌝ }
 {
-    let found = ext_neg_shift(s, at, n);
+    let found = ext_neg_shift(table, s, at, n);
     let ProteinEditRead::Nothing = found else {
         return found;
     };
-    ext_pos_shift(s, at, n)
+    ext_pos_shift(table, s, at, n)
 }
 
 // The bytes of the residues behind a word; none where the word is not at the front.
-fn residues_behind(s: &[u8], word: &[u8]) -> usize
+fn residues_behind(table: &[u8; 256], s: &[u8], word: &[u8]) -> usize
+    requires { ⌜ IsTable (now table) ⌝ }
     ensures { λ r. ⌜ r ≡ residuesBehind (now (word .entry)) (now (s .entry)) ⌝ }
 {
     if !scan::begins(s, word) {
         return 0;
     }
     let k = word.len();
-    residue::residues_at(&s[k..])
+    residue::residues_at(table, &s[k..])
 }
 
 // `delins`, `del`, `ins` and `dup`.
-fn worded(s: &[u8], at: usize) -> ProteinEditRead
-    requires { ⌜ at + length (now s) ≤ 4096 ⌝ }
+fn worded(table: &[u8; 256], s: &[u8], at: usize) -> ProteinEditRead
+    requires { ⌜ (at + length (now s) ≤ 4096) × IsTable (now table) ⌝ }
     ensures { λ r. ⌜ r ≡ proteinEditAnswer at (wordedAt (now (s .entry))) ⌝ }
 {
-    let m = residues_behind(s, b"delins");
+    let m = residues_behind(table, s, b"delins");
     if m != 0 {
         return ProteinEditRead::Found(
             ProteinEdit::DelIns(scan::span(at + 6, m)),
@@ -211,7 +214,7 @@ fn worded(s: &[u8], at: usize) -> ProteinEditRead
     if scan::begins(s, b"del") {
         return ProteinEditRead::Found(ProteinEdit::Del, 3, scan::no_faults());
     }
-    let k = residues_behind(s, b"ins");
+    let k = residues_behind(table, s, b"ins");
     if k != 0 {
         return ProteinEditRead::Found(
             ProteinEdit::Ins(scan::span(at + 3, k)),
@@ -226,17 +229,17 @@ fn worded(s: &[u8], at: usize) -> ProteinEditRead
 }
 
 // The edit at the front of s, which stands at `at` in its text. The alternatives are tried in the crate's order.
-pub fn protein_edit_at(s: &[u8], at: usize) -> ProteinEditRead
-    requires { ⌜ at + length (now s) ≤ 4096 ⌝ }
+pub fn protein_edit_at(table: &[u8; 256], s: &[u8], at: usize) -> ProteinEditRead
+    requires { ⌜ (at + length (now s) ≤ 4096) × IsTable (now table) ⌝ }
     ensures { λ r. ⌜ r ≡ proteinEditAnswer at (proteinEditLang .parse (now (s .entry))) ⌝ }
 {
-    let n = residue::residue_at(s);
+    let n = residue::residue_at(table, s);
     let rest = &s[n..];
     if scan::begins(rest, b"fs") {
-        return fs(&rest[2..], at, n);
+        return fs(table, &rest[2..], at, n);
     }
     if scan::begins(rest, b"ext") {
-        return ext(&rest[3..], at, n);
+        return ext(table, &rest[3..], at, n);
     }
     if scan::begins(s, b"=") {
         return ProteinEditRead::Found(ProteinEdit::Ident, 1, scan::no_faults());
@@ -247,32 +250,24 @@ pub fn protein_edit_at(s: &[u8], at: usize) -> ProteinEditRead
     if n != 0 {
         return ProteinEditRead::Found(ProteinEdit::Subst(scan::span(at, n)), n, scan::no_faults());
     }
-    worded(s, at)
+    worded(table, s, at)
 }
 
 // The edit at the front of s, certain, or uncertain when in round brackets.
-pub fn mu_protein_edit_at(s: &[u8], at: usize) -> MuProteinEditRead
-    requires { ⌜ at + length (now s) ≤ 4096 ⌝ }
+pub fn mu_protein_edit_at(table: &[u8; 256], s: &[u8], at: usize) -> MuProteinEditRead
+    requires { ⌜ (at + length (now s) ≤ 4096) × IsTable (now table) ⌝ }
     ensures { λ r. ⌜ r ≡ muProteinEditAnswer at (muProteinEditLang .parse (now (s .entry))) ⌝ }
 {
-    if scan::begins(s, b"(") {
-        match protein_edit_at(&s[1..], at + 1) {
-            ProteinEditRead::Nothing => MuProteinEditRead::Nothing,
-            ProteinEditRead::Found(e, len, faults) => {
-                let k = 1 + len;
-                if scan::begins(&s[k..], b")") {
-                    MuProteinEditRead::Found(MuProteinEdit::Uncertain(e), k + 1, faults)
-                } else {
-                    MuProteinEditRead::Nothing
-                }
-            }
-        }
-    } else {
-        match protein_edit_at(s, at) {
-            ProteinEditRead::Nothing => MuProteinEditRead::Nothing,
-            ProteinEditRead::Found(e, len, faults) => {
-                MuProteinEditRead::Found(MuProteinEdit::Certain(e), len, faults)
-            }
-        }
+    let a = scan::opening(s);
+    let ProteinEditRead::Found(e, n, faults) = protein_edit_at(table, &s[a..], at + a) else {
+        return MuProteinEditRead::Nothing;
+    };
+    if a == 0 {
+        return MuProteinEditRead::Found(MuProteinEdit::Certain(e), n, faults);
     }
+    let k = a + n;
+    if !scan::begins(&s[k..], b")") {
+        return MuProteinEditRead::Nothing;
+    }
+    MuProteinEditRead::Found(MuProteinEdit::Uncertain(e), k + 1, faults)
 }

@@ -1,11 +1,10 @@
 -- Reading a text has one answer, and where it is accepted the record's content is what the text means.
 use Prim.Native.Nat.{ℕ}
-use mathlib.Core.Path.{_≡_, refl, sym, ap, _∙_}
+use mathlib.Core.Path.{_≡_, sym}
 use mathlib.Core.List.{List}
 use Rattle.record.specs.declared.answers.ReadAnswer.{ReadAnswer}
 use Rattle.record.specs.declared.variant.HgvsVariant.{HgvsVariant}
 use Rattle.grammar.specs.Texts.{Text, print, Wf, allLetters}
-use Rattle.grammar.specs.Records.{recordAt}
 use Rattle.grammar.specs.Contents.{content}
 use Rattle.grammar.specs.ContentLaw.{content-is}
 use Rattle.bodies.specs.WholeText.{unambiguous}

@@ -11,7 +11,7 @@ use lib.ListN.{length, take, drop}
 use lib.Seq.{length-take-le, take-at, take-add}
 use borrow.Author.Tests.{eqb-true, ne-eqb, leb-true, le-leb, not-true}
 use Rattle.texts.specs.Ascii.{ascii}
-use Rattle.texts.specs.Tests.{and-true, true-and, or-true, left-or, right-or, and-false, never, clash}
+use Rattle.texts.specs.Tests.{and-true, true-and, or-true, left-or, right-or, never, clash}
 use Rattle.texts.specs.Runs.{every, Some, run, run-le, run-nil, run-head, run-is, front, front-every}
 use Rattle.texts.specs.Words.{same, same-true}
 use Rattle.alphabet.specs.Letters.{among, digit, residue}
@@ -70,10 +70,6 @@ continues-apart p b x e h = continues-first b x (none-among p b (ascii "aehilrsy
 pub continues-digit : (b : ℕ) (x : List ℕ) → digit b ≡ true → continues (b ∷ x) ≡ false
 unfolding digit every
 continues-digit b x = continues-apart digit b x refl
-
-pub continues-residue : (b : ℕ) (x : List ℕ) → residue b ≡ true → continues (b ∷ x) ≡ false
-unfolding residue every
-continues-residue b x = continues-apart residue b x refl
 
 pub continues-digits : (d x : List ℕ) → Some digit d → continues (d ++ x) ≡ false
 unfolding every
@@ -286,22 +282,3 @@ residues-sound s h = parts-residues (take (residuesLen s) s) (rw (length-take-le
     go : (t : Bool) → threes (take (cond t (run residue s) (threesLen s)) s) || every residue (take (cond t (run residue s) (threesLen s)) s) ≡ true
     go true = right-or (threes (take (run residue s) s)) (front-every residue s)
     go false = left-or (every residue (take (threesLen s) s)) (threes-sound s)
-
-pub residues-first : (b : ℕ) (s : List ℕ) → isResidues (b ∷ s) ≡ true → residue b ≡ true
-unfolding every threes
-residues-first b s h = ⊎-elim (first s) (λ q. and-true (residue b) (every residue s) q .0) (residues-parts (b ∷ s) h .1)
-  where
-    first : (s : List ℕ) → threes (b ∷ s) ≡ true → residue b ≡ true
-    first [] q = absurd (clash q refl)
-    first (c ∷ []) q = absurd (clash q refl)
-    first (c ∷ d ∷ s) q = three-first b (c ∷ d ∷ []) (and-true (isThree (b ∷ c ∷ d ∷ [])) (threes s) q .0)
-
--- no text is residues of three letters and of one
-pub threes-no-ones : (b : ℕ) (s : List ℕ) → threes (b ∷ s) ≡ true → every residue (b ∷ s) ≡ false
-unfolding every threes
-threes-no-ones b [] h = absurd (clash h refl)
-threes-no-ones b (c ∷ []) h = absurd (clash h refl)
-threes-no-ones b (c ∷ d ∷ s) h =
-    let t = and-true (isThree (b ∷ c ∷ d ∷ [])) (threes s) h in
-    let e : residue c ≡ false = three-second b c (d ∷ []) (t .0) in
-    rw e (and-false (residue b))

@@ -1,6 +1,7 @@
 // The residues: one letter or `*`, or three letters, of which there are 25 rows.
 use alphabet::Class;
 ghost use mathlib.Core.Path.{_≡_};
+ghost use Rattle.alphabet.specs.Cells.{IsTable};
 ghost use Rattle.residue.specs.Rows.{rowOf};
 ghost use Rattle.residue.specs.Residues.{isResidue, isResidues};
 ghost use Rattle.residue.specs.Reading.{residueLen, threesLen, residuesLen};
@@ -45,13 +46,14 @@ pub fn find_row(s: &[u8]) -> RowFound
     if s.len() < 3 {
         return RowFound::Nothing;
     }
+    let rows = ROWS;
     let mut i: usize = 0;
     'rows: loop {
         if i >= 25 {
             break 'rows RowFound::Nothing;
         }
         let mut j: usize = 0;
-        while ROWS[i][j] == s[j] {
+        while rows[i][j] == s[j] {
             j += 1;
             if j == 3 {
                 break 'rows RowFound::Row(i);
@@ -62,7 +64,8 @@ pub fn find_row(s: &[u8]) -> RowFound
 }
 
 // The bytes of the residue at the front: three letters, else one.
-pub fn residue_at(s: &[u8]) -> usize
+pub fn residue_at(table: &[u8; 256], s: &[u8]) -> usize
+    requires { ⌜ IsTable (now table) ⌝ }
     ensures { λ r. ⌜ r ≡ residueLen (now (s .entry)) ⌝ }
 {
     let RowFound::Nothing = find_row(s) else {
@@ -71,7 +74,7 @@ pub fn residue_at(s: &[u8]) -> usize
     if s.len() == 0 {
         return 0;
     }
-    if alphabet::is_in(Class::Residue, s[0]) {
+    if alphabet::is_in(table, Class::Residue, s[0]) {
         return 1;
     }
     0
@@ -90,32 +93,35 @@ fn threes_at(s: &[u8]) -> usize
 }
 
 // The bytes of the residues at the front: all of three letters, else all of one.
-pub fn residues_at(s: &[u8]) -> usize
+pub fn residues_at(table: &[u8; 256], s: &[u8]) -> usize
+    requires { ⌜ IsTable (now table) ⌝ }
     ensures { λ r. ⌜ r ≡ residuesLen (now (s .entry)) ⌝ }
 {
     let n = threes_at(s);
     if n == 0 {
-        return alphabet::run_of(Class::Residue, s);
+        return alphabet::run_of(table, Class::Residue, s);
     }
     n
 }
 
 // Is the whole text one residue?
-pub fn is_residue(s: &[u8]) -> bool
+pub fn is_residue(table: &[u8; 256], s: &[u8]) -> bool
+    requires { ⌜ IsTable (now table) ⌝ }
     ensures { λ r. ⌜ r ≡ isResidue (now (s .entry)) ⌝ }
 {
     if s.len() == 0 {
         return false;
     }
-    residue_at(s) == s.len()
+    residue_at(table, s) == s.len()
 }
 
 // Is the whole text one or more residues, all of three letters or all of one?
-pub fn is_residues(s: &[u8]) -> bool
+pub fn is_residues(table: &[u8; 256], s: &[u8]) -> bool
+    requires { ⌜ IsTable (now table) ⌝ }
     ensures { λ r. ⌜ r ≡ isResidues (now (s .entry)) ⌝ }
 {
     if s.len() == 0 {
         return false;
     }
-    residues_at(s) == s.len()
+    residues_at(table, s) == s.len()
 }

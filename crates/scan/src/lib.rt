@@ -4,6 +4,7 @@ use record::spans::Span;
 ghost use mathlib.Core.Path.{_≡_};
 ghost use Prim.Native.Nat.{_+_, _<_, _^_};
 ghost use Rattle.texts.specs.Words.{starts};
+ghost use Rattle.texts.specs.Brackets.{opening as openingOf};
 ghost use Rattle.grammar.specs.Records.{span as spanFrom};
 ghost use Rattle.scan.specs.Faults.{none as noFault, unfitUnless, first};
 
@@ -32,6 +33,16 @@ pub fn begins(s: &[u8], word: &[u8]) -> bool
         i += 1;
     }
     true
+}
+
+// How long the opening bracket at the front is: 1, or 0 where there is none.
+pub fn opening(s: &[u8]) -> usize
+    ensures { λ r. ⌜ r ≡ openingOf (now (s .entry)) ⌝ }
+{
+    if begins(s, b"(") {
+        return 1;
+    }
+    0
 }
 
 // n bytes from `at` on.

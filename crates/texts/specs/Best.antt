@@ -1,6 +1,6 @@
 -- Which of two texts is to be written: the shorter, and of two as long the first in byte order.
-use Prim.Native.Nat.{ℕ, zero, suc, _+_, _≤_, _<_}
-use mathlib.Core.Path.{_≡_, refl, sym, ap, _∙_}
+use Prim.Native.Nat.{ℕ, suc, _+_, _≤_, _<_}
+use mathlib.Core.Path.{_≡_, refl, ap, _∙_}
 use mathlib.Core.Logic.{_⊎_, inl, inr, ⊎-elim}
 use mathlib.Core.List.{List, [], _∷_, _++_}
 use native.Mathlib.Omega.{arith}
@@ -45,16 +45,6 @@ before-total (x ∷ a) (y ∷ b) l = go (ltb x y) (ltb y x) refl refl (before-to
     go false false e f r =
         let q : x ≡ y = omega (arith, ltb-false x y e, ltb-false y x f) in
         rw q (⊎-elim (λ h. inl (next h)) (λ h. inr (next h)) r)
-
-pub best-total : (a b : List ℕ) → Best a b ⊎ Best b a
-best-total a b = go (ltb (length a) (length b)) (ltb (length b) (length a)) refl refl
-  where
-    go : (t u : Bool) → ltb (length a) (length b) ≡ t → ltb (length b) (length a) ≡ u → Best a b ⊎ Best b a
-    go true u e f = inl (shorter (ltb-true (length a) (length b) e))
-    go false true e f = inr (shorter (ltb-true (length b) (length a) f))
-    go false false e f =
-        ⊎-elim (λ h. inl (first h)) (λ h. inr (first h))
-        (before-total a b (omega (arith, ltb-false (length a) (length b) e, ltb-false (length b) (length a) f)))
 
 -- ---- a whole is best where its parts are
 before-left : {a b : List ℕ} (c : List ℕ) → Before a b → Before (c ++ a) (c ++ b)

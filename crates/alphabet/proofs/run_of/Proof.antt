@@ -11,10 +11,10 @@ use Rattle.alphabet.proofs.run_of.Statement.{statement}
 use Rattle.alphabet.proofs.run_of.Tie as tie
 
 abbrev Inv-loop : tie.InvT-loop
-Inv-loop class s i₀ i = (i ≤ length s) × (run (member class) s ≡ i + run (member class) (drop i s))
+Inv-loop table class s i₀ i = (i ≤ length s) × (run (member class) s ≡ i + run (member class) (drop i s))
 
 abbrev μ-loop : tie.MeasureT-loop
-μ-loop class s i₀ i = length s - i
+μ-loop table class s i₀ i = length s - i
 
 loop-holds : tie.Need-loop-holds Inv-loop μ-loop
 loop-holds c = search needs

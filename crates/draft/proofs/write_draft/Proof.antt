@@ -1,7 +1,6 @@
 -- `draft::write_draft` meets its contract.
 use native.Mathlib.Omega.{arith}
-use mathlib.Core.Path.{_≡_, sym, ap, _∙_}
-use Prim.Native.Nat.{_≤_, _<_}
+use mathlib.Core.Path.{_≡_, ap, _∙_}
 use lib.ListN.{length}
 use Rattle.record.specs.declared.answers.WriteAnswer.the-variants.{Written}
 use Rattle.draft.specs.Texts.{draftText}

@@ -17,10 +17,10 @@ use Rattle.number.proofs.number_at.Statement.{statement}
 use Rattle.number.proofs.number_at.Tie as tie
 
 abbrev Inv-loop : tie.InvT-loop
-Inv-loop s sign v₀ i₀ v i = (i ≤ length s) × (run digit s ≡ i + run digit (drop i s)) × (v ≡ min (val (take i s)) tooLarge)
+Inv-loop table s sign v₀ i₀ v i = (i ≤ length s) × (run digit s ≡ i + run digit (drop i s)) × (v ≡ min (val (take i s)) tooLarge)
 
 abbrev μ-loop : tie.MeasureT-loop
-μ-loop s sign v₀ i₀ v i = length s - i
+μ-loop table s sign v₀ i₀ v i = length s - i
 
 -- the byte that was read is a digit
 is-digit : (c : tie.Else1 Inv-loop μ-loop) → digit (getD (c .before .before .before .before .before .before .args .s .now) (c .before .before .before .before .loop .i) 0) ≡ true

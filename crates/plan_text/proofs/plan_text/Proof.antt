@@ -5,6 +5,9 @@ use borrow.Author.Needs.{needs}
 use Rattle.plan_text.proofs.plan_text.Statement.{statement}
 use Rattle.plan_text.proofs.plan_text.Tie as tie
 
+classes-requires : tie.Need-classes-requires
+classes-requires c κs = search needs
+
 header-has-text-requires : tie.Need-header-has-text-requires
 header-has-text-requires c κs = search needs
 
@@ -27,13 +30,15 @@ drafted-requires c κs = search needs
 returns-2 : tie.Need-returns-2
 unfolding textPlan
 returns-2 c =
-    let e = c .before .before .before .before in
-    rw (sym (e .before .header-has-text .ensures) ∙ not-false _ (e .if1 .left), textPlan, c .drafted .ensures, c .before .plan-body .ensures, c .before .before .heading .ensures, c .before .before .before .kind-of .ensures)
+    let h = c .before .before .before in
+    let e = h .before .before in
+    rw (sym (e .before .header-has-text .ensures) ∙ not-false _ (e .if1 .left), textPlan, c .drafted .ensures, c .before .plan-body .ensures, h .heading .ensures, h .before .kind-of .ensures)
 
 pub plan-text-spec : {M : Type 1} → statement M
 plan-text-spec =
     tie.close
     (tie.spec
+    classes-requires
     header-has-text-requires
     returns
     kind-of-requires

@@ -52,14 +52,14 @@ add-span-2 c = omega (arith, gene-ends c)
 span-requires-2 : tie.Need-span-requires-2
 span-requires-2 c κs = omega (arith, gene-ends c)
 
-add-t17 : tie.Need-add-t17
-add-t17 c = omega (arith, gene-ends (c .before))
-
 add-t18 : tie.Need-add-t18
 add-t18 c = omega (arith, gene-ends (c .before))
 
 add-t19 : tie.Need-add-t19
 add-t19 c = omega (arith, gene-ends (c .before))
+
+add-t20 : tie.Need-add-t20
+add-t20 c = omega (arith, gene-ends (c .before))
 
 returns-3 : tie.Need-returns-3
 returns-3 c =
@@ -84,7 +84,7 @@ header-at-spec =
     add-span
     add-span-2
     span-requires-2
-    add-t17
     add-t18
     add-t19
+    add-t20
     returns-3)

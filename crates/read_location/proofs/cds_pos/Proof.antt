@@ -54,19 +54,19 @@ part-offset-at-end : tie.Need-part-offset-at-end
 part-offset-at-end c = search needs
 
 add-offset-at : tie.Need-add-offset-at
-add-offset-at c = omega (arith, number-le (c .before .before .before .before), c .before .before .before .before .before .before .before .before .pre)
+add-offset-at c = omega (arith, number-le (c .before .before .before .before), c .before .before .before .before .before .before .before .before .pre .0)
 
 offset-at-requires : tie.Need-offset-at-requires
-offset-at-requires c κs = tail-room _ _ (c .before .before .before .before .before .before .before .before .args .s .now) (c .before .before .before .before .before .before .before .before .pre) (number-le (c .before .before .before .before))
+offset-at-requires c κs = (tail-room _ _ (c .before .before .before .before .before .before .before .before .args .s .now) (c .before .before .before .before .before .before .before .before .pre .0) (number-le (c .before .before .before .before)), search needs)
 
 span-requires : tie.Need-span-requires
 span-requires c κs = search needs
 
-add-t13 : tie.Need-add-t13
-add-t13 c = omega (arith, offset-le (c .before .before .before .before))
+add-t14 : tie.Need-add-t14
+add-t14 c = omega (arith, offset-le (c .before .before .before .before))
 
 add-faults-of : tie.Need-add-faults-of
-add-faults-of c = omega (arith, mark-le (c .before .before .before .before .before .before .before .before .before .before .before), c .before .before .before .before .before .before .before .before .before .before .before .before .before .pre)
+add-faults-of c = omega (arith, mark-le (c .before .before .before .before .before .before .before .before .before .before .before), c .before .before .before .before .before .before .before .before .before .before .before .before .before .pre .0)
 
 faults-of-requires : tie.Need-faults-of-requires
 faults-of-requires c κs = search needs
@@ -99,7 +99,7 @@ cds-pos-spec =
     add-offset-at
     offset-at-requires
     span-requires
-    add-t13
+    add-t14
     add-faults-of
     faults-of-requires
     leftmost-requires

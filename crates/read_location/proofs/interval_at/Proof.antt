@@ -3,12 +3,12 @@ use mathlib.Core.Path.{_≡_, sym, _∙_}
 use mathlib.Core.Bool.{true}
 use native.Mathlib.Omega.{arith}
 use lib.ListN.{length, take, drop}
+use Rattle.texts.specs.Slices.{tail-room}
 use Rattle.texts.specs.Ascii.{ascii}
 use Rattle.texts.specs.Words.{starts}
 use borrow.Author.Tests.{not-true, not-false}
 use Rattle.read_location.specs.Told.{PositionTold, position-told}
-use Rattle.texts.specs.Slices.{tail-room}
-use Rattle.read_location.proofs.Locations.{interval-none, start-le, interval-one, join-le, interval-half, end-le, interval-two}
+use Rattle.read_location.proofs.Intervals.{interval-none, start-le, interval-one, join-le, interval-half, end-le, interval-two}
 use borrow.Author.Needs.{needs}
 use Rattle.read_location.proofs.interval_at.Statement.{statement}
 use Rattle.read_location.proofs.interval_at.Tie as tie
@@ -71,10 +71,10 @@ part-pos-at-end : tie.Need-part-pos-at-end
 part-pos-at-end c = search needs
 
 add-pos-at : tie.Need-add-pos-at
-add-pos-at c = omega (arith, bar-le (c .before), c .before .before .before .before .before .before .before .before .before .before .pre)
+add-pos-at c = omega (arith, bar-le (c .before), c .before .before .before .before .before .before .before .before .before .before .pre .0)
 
 pos-at-requires-2 : tie.Need-pos-at-requires-2
-pos-at-requires-2 c κs = tail-room _ _ (c .before .before .before .before .before .before .before .before .before .before .args .s .now) (c .before .before .before .before .before .before .before .before .before .before .pre) (bar-le (c .before))
+pos-at-requires-2 c κs = (tail-room _ _ (c .before .before .before .before .before .before .before .before .before .before .args .s .now) (c .before .before .before .before .before .before .before .before .before .before .pre .0) (bar-le (c .before)), search needs)
 
 enum-known-end : tie.Need-enum-known-end
 enum-known-end c = search needs
@@ -85,8 +85,8 @@ enum-told-2 c = search needs
 returns-3 : tie.Need-returns-3
 returns-3 c = interval-half (first (c .before .before .before .before .before .before .before .before .before)) (bar (c .before .before .before .before)) (sym (c .enum-told2 .given .1) ∙ c .before .before .pos-at2 .ensures)
 
-add-t15 : tie.Need-add-t15
-add-t15 c = omega (arith, end-le (first (c .before .before .before .before .before .before .before .before .before .before)) (bar (c .before .before .before .before .before)) (second (c .before)))
+add-t16 : tie.Need-add-t16
+add-t16 c = omega (arith, end-le (first (c .before .before .before .before .before .before .before .before .before .before)) (bar (c .before .before .before .before .before)) (second (c .before)))
 
 leftmost-requires : tie.Need-leftmost-requires
 leftmost-requires c κs = search needs
@@ -117,6 +117,6 @@ interval-at-spec =
     enum-known-end
     enum-told-2
     returns-3
-    add-t15
+    add-t16
     leftmost-requires
     returns-4)

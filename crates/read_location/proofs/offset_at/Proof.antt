@@ -33,7 +33,7 @@ part-offset-behind-end : tie.Need-part-offset-behind-end
 part-offset-behind-end c = search needs
 
 offset-behind-requires : tie.Need-offset-behind-requires
-offset-behind-requires c κs = tail-room _ 1 (c .before .before .before .before .before .args .s .now) (c .before .before .before .before .before .pre) (starts-length (ascii "+") _ (ahead (c .before)))
+offset-behind-requires c κs = (tail-room _ 1 (c .before .before .before .before .before .args .s .now) (c .before .before .before .before .before .pre .0) (starts-length (ascii "+") _ (ahead (c .before))), search needs)
 
 returns : tie.Need-returns
 returns c = c .offset-behind .ensures ∙ offset-ahead _ _ (ahead (c .before .before))
@@ -54,7 +54,7 @@ part-offset-behind-end-2 : tie.Need-part-offset-behind-end-2
 part-offset-behind-end-2 c = search needs
 
 offset-behind-requires-2 : tie.Need-offset-behind-requires-2
-offset-behind-requires-2 c κs = tail-room _ 1 (c .before .before .before .before .before .before .before .before .args .s .now) (c .before .before .before .before .before .before .before .before .pre) (starts-length (ascii "-") _ (back (c .before)))
+offset-behind-requires-2 c κs = (tail-room _ 1 (c .before .before .before .before .before .before .before .before .args .s .now) (c .before .before .before .before .before .before .before .before .pre .0) (starts-length (ascii "-") _ (back (c .before))), search needs)
 
 returns-2 : tie.Need-returns-2
 returns-2 c = c .offset-behind2 .ensures ∙ offset-back _ _ (no-plus (c .before .before .before .before .before)) (back (c .before .before))

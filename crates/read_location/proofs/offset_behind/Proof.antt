@@ -17,8 +17,8 @@ returns c =
     let n = c .before .before .before in
     c .no-offset .ensures ∙ behind-none _ _ _ _ (n .number-at .ensures) (c .before .if1 .taken)
 
-add-t7 : tie.Need-add-t7
-add-t7 c =
+add-t8 : tie.Need-add-t8
+add-t8 c =
     let n = c .before .before .before .before in
     omega (arith, number-le _ _ _ (n .number-at .ensures))
 
@@ -40,7 +40,7 @@ offset-behind-spec =
     number-at-requires
     no-offset-requires
     returns
-    add-t7
+    add-t8
     add-faults-of
     faults-of-requires
     returns-2)

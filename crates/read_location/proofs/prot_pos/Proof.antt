@@ -37,16 +37,16 @@ returns-2 c =
     residual-bare _ _ _ (i .before .residue-at .ensures) _ (n .number-at .ensures) (i .if1 .left) (c .if2 .taken)
 
 span-requires : tie.Need-span-requires
-span-requires c κs = omega (arith, residue-le (c .before .before .before .before .before), c .before .before .before .before .before .before .before .pre)
+span-requires c κs = omega (arith, residue-le (c .before .before .before .before .before), c .before .before .before .before .before .before .before .pre .0)
 
 plain-requires : tie.Need-plain-requires
 plain-requires c κs = search needs
 
-add-t7 : tie.Need-add-t7
-add-t7 c = omega (arith, number-le (c .before .before .before .before .before .before))
+add-t8 : tie.Need-add-t8
+add-t8 c = omega (arith, number-le (c .before .before .before .before .before .before))
 
 add-faults-of : tie.Need-add-faults-of
-add-faults-of c = omega (arith, residue-le (c .before .before .before .before .before .before .before .before .before), c .before .before .before .before .before .before .before .before .before .before .before .pre)
+add-faults-of c = omega (arith, residue-le (c .before .before .before .before .before .before .before .before .before), c .before .before .before .before .before .before .before .before .before .before .before .pre .0)
 
 faults-of-requires : tie.Need-faults-of-requires
 faults-of-requires c κs = search needs
@@ -70,7 +70,7 @@ prot-pos-spec =
     returns-2
     span-requires
     plain-requires
-    add-t7
+    add-t8
     add-faults-of
     faults-of-requires
     returns-3)

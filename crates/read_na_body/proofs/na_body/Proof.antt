@@ -1,6 +1,6 @@
 -- `read_na_body::na_body` meets its contract.
-use Prim.Native.Nat.{_+_, _-_, _≤_}
-use mathlib.Core.Path.{_≡_, sym, _∙_}
+use Prim.Native.Nat.{_+_, _-_}
+use mathlib.Core.Path.{sym, _∙_}
 use native.Mathlib.Omega.{arith}
 use lib.ListN.{length, take, drop}
 use Rattle.texts.specs.Slices.{tail-room}
@@ -40,10 +40,10 @@ part-mu-na-edit-at-end : tie.Need-part-mu-na-edit-at-end
 part-mu-na-edit-at-end c = search needs
 
 add-mu-na-edit-at : tie.Need-add-mu-na-edit-at
-add-mu-na-edit-at c = omega (arith, location-within (loc (c .before .before)), c .before .before .before .before .before .before .pre)
+add-mu-na-edit-at c = omega (arith, location-within (loc (c .before .before)), c .before .before .before .before .before .before .pre .0)
 
 mu-na-edit-at-requires : tie.Need-mu-na-edit-at-requires
-mu-na-edit-at-requires c κs = tail-room _ _ (c .before .before .before .before .before .before .args .s .now) (c .before .before .before .before .before .before .pre) (location-within (loc (c .before .before)))
+mu-na-edit-at-requires c κs = (tail-room _ _ (c .before .before .before .before .before .before .args .s .now) (c .before .before .before .before .before .before .pre .0) (location-within (loc (c .before .before))), search needs)
 
 enum-known-edit : tie.Need-enum-known-edit
 enum-known-edit c = search needs

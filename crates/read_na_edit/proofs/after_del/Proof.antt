@@ -65,14 +65,14 @@ add-span-4 c = omega (arith, m-le (c .before .before .before .before))
 span-requires-2 : tie.Need-span-requires-2
 span-requires-2 c κs = omega (arith, m-le (c .before .before .before .before), b-le (c .before .before))
 
-add-t19 : tie.Need-add-t19
-add-t19 c = omega (arith, m-le (c .before .before .before .before .before))
-
 add-t20 : tie.Need-add-t20
 add-t20 c = omega (arith, m-le (c .before .before .before .before .before))
 
 add-t21 : tie.Need-add-t21
-add-t21 c = omega (arith, m-le (c .before .before .before .before .before), b-le (c .before .before .before))
+add-t21 c = omega (arith, m-le (c .before .before .before .before .before))
+
+add-t22 : tie.Need-add-t22
+add-t22 c = omega (arith, m-le (c .before .before .before .before .before), b-le (c .before .before .before))
 
 no-faults-requires : tie.Need-no-faults-requires
 no-faults-requires c κs = search needs
@@ -105,8 +105,8 @@ add-span-5 c = search needs
 span-requires-3 : tie.Need-span-requires-3
 span-requires-3 c κs = omega (arith, m-le (c .before .before .before .before .before .before))
 
-add-t26 : tie.Need-add-t26
-add-t26 c = omega (arith, m-le (c .before .before .before .before .before .before .before))
+add-t27 : tie.Need-add-t27
+add-t27 c = omega (arith, m-le (c .before .before .before .before .before .before .before))
 
 no-faults-requires-2 : tie.Need-no-faults-requires-2
 no-faults-requires-2 c κs = search needs
@@ -136,9 +136,9 @@ after-del-spec =
     add-span-3
     add-span-4
     span-requires-2
-    add-t19
     add-t20
     add-t21
+    add-t22
     no-faults-requires
     returns
     number-at-requires
@@ -146,6 +146,6 @@ after-del-spec =
     returns-2
     add-span-5
     span-requires-3
-    add-t26
+    add-t27
     no-faults-requires-2
     returns-3)

@@ -43,8 +43,8 @@ add-faults-of c = search needs
 faults-of-requires : tie.Need-faults-of-requires
 faults-of-requires c κs = search needs
 
-add-t13 : tie.Need-add-t13
-add-t13 c = omega (arith, n-le (c .before .before .before .before .before .before))
+add-t14 : tie.Need-add-t14
+add-t14 c = omega (arith, n-le (c .before .before .before .before .before .before))
 
 returns : tie.Need-returns
 returns c =
@@ -66,14 +66,14 @@ add-span-3 c = omega (arith, n-le (c .before .before .before .before .before))
 span-requires : tie.Need-span-requires
 span-requires c κs = omega (arith, n-le (c .before .before .before .before .before), b-le (c .before .before))
 
-add-t18 : tie.Need-add-t18
-add-t18 c = omega (arith, n-le (c .before .before .before .before .before .before .before))
-
 add-t19 : tie.Need-add-t19
 add-t19 c = omega (arith, n-le (c .before .before .before .before .before .before .before))
 
 add-t20 : tie.Need-add-t20
-add-t20 c = omega (arith, n-le (c .before .before .before .before .before .before .before), b-le (c .before .before .before .before))
+add-t20 c = omega (arith, n-le (c .before .before .before .before .before .before .before))
+
+add-t21 : tie.Need-add-t21
+add-t21 c = omega (arith, n-le (c .before .before .before .before .before .before .before), b-le (c .before .before .before .before))
 
 returns-2 : tie.Need-returns-2
 returns-2 c =
@@ -93,13 +93,13 @@ after-del-num-spec =
     inserted-requires
     add-faults-of
     faults-of-requires
-    add-t13
+    add-t14
     returns
     add-span
     add-span-2
     add-span-3
     span-requires
-    add-t18
     add-t19
     add-t20
+    add-t21
     returns-2)

@@ -23,8 +23,8 @@ m-le c = counted-le nucleotide _ _ (c .run-of .ensures)
 number-at-requires : tie.Need-number-at-requires
 number-at-requires c κs = search needs
 
-add-t9 : tie.Need-add-t9
-add-t9 c = omega (arith, number-le _ _ _ (c .before .before .number-at .ensures))
+add-t10 : tie.Need-add-t10
+add-t10 c = omega (arith, number-le _ _ _ (c .before .before .number-at .ensures))
 
 add-faults-of : tie.Need-add-faults-of
 add-faults-of c = search needs
@@ -49,8 +49,8 @@ add-span c = search needs
 span-requires : tie.Need-span-requires
 span-requires c κs = omega (arith, m-le c)
 
-add-t16 : tie.Need-add-t16
-add-t16 c = omega (arith, m-le (c .before))
+add-t17 : tie.Need-add-t17
+add-t17 c = omega (arith, m-le (c .before))
 
 no-faults-requires : tie.Need-no-faults-requires
 no-faults-requires c κs = search needs
@@ -69,13 +69,13 @@ after-inv-spec =
     tie.close
     (tie.spec
     number-at-requires
-    add-t9
+    add-t10
     add-faults-of
     faults-of-requires
     returns
     run-of-requires
     add-span
     span-requires
-    add-t16
+    add-t17
     no-faults-requires
     returns-2)

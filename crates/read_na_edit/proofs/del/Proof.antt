@@ -29,7 +29,7 @@ part-after-del-end : tie.Need-part-after-del-end
 part-after-del-end c = search needs
 
 after-del-requires : tie.Need-after-del-requires
-after-del-requires c κs = word-room (ascii "del") _ _ refl (is-word (c .before)) (c .before .before .before .before .before .pre)
+after-del-requires c κs = (word-room (ascii "del") _ _ refl (is-word (c .before)) (c .before .before .before .before .before .pre .0), search needs)
 
 returns : tie.Need-returns
 unfolding parseDel

@@ -27,7 +27,7 @@ unfolding member
 room c =
     let t = c .before .before in
     let a = t .before .before .before .before in
-    omega (arith, counted-le nucleotide _ _ (c .run-of .ensures), word-room (ascii "dup") (a .args .s .now) (a .args .at) refl (is-dup t) (a .pre))
+    omega (arith, counted-le nucleotide _ _ (c .run-of .ensures), word-room (ascii "dup") (a .args .s .now) (a .args .at) refl (is-dup t) (a .pre .0))
 
 slice-aggregate-begins : tie.Need-slice-aggregate-begins
 slice-aggregate-begins c = search needs
@@ -53,8 +53,8 @@ add-span c = search needs
 span-requires : tie.Need-span-requires
 span-requires c κs = omega (arith, room c)
 
-add-t15 : tie.Need-add-t15
-add-t15 c = omega (arith, room (c .before))
+add-t16 : tie.Need-add-t16
+add-t16 c = omega (arith, room (c .before))
 
 no-faults-requires : tie.Need-no-faults-requires
 no-faults-requires c κs = search needs
@@ -84,7 +84,7 @@ dup-spec =
     run-of-requires
     add-span
     span-requires
-    add-t15
+    add-t16
     no-faults-requires
     returns
     returns-2)

@@ -46,8 +46,8 @@ begins-requires c κs = search needs
 span-requires : tie.Need-span-requires
 span-requires c κs = omega (arith, m-le (c .before .before .before .before))
 
-add-t15 : tie.Need-add-t15
-add-t15 c = omega (arith, m-le (c .before .before .before .before .before))
+add-t16 : tie.Need-add-t16
+add-t16 c = omega (arith, m-le (c .before .before .before .before .before))
 
 no-faults-requires : tie.Need-no-faults-requires
 no-faults-requires c κs = search needs
@@ -76,7 +76,7 @@ ident-spec =
     slice-aggregate-begins
     begins-requires
     span-requires
-    add-t15
+    add-t16
     no-faults-requires
     returns
     returns-2)

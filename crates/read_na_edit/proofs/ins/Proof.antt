@@ -31,8 +31,8 @@ add-span c = search needs
 span-requires : tie.Need-span-requires
 span-requires c κs = omega (arith, m-le (c .before))
 
-add-t8 : tie.Need-add-t8
-add-t8 c = omega (arith, m-le (c .before .before))
+add-t9 : tie.Need-add-t9
+add-t9 c = omega (arith, m-le (c .before .before))
 
 no-faults-requires : tie.Need-no-faults-requires
 no-faults-requires c κs = search needs
@@ -47,4 +47,4 @@ returns-2 c =
 pub ins-spec : {M : Type 1} → statement M
 ins-spec =
     tie.close
-    (tie.spec inserted-requires returns add-span span-requires add-t8 no-faults-requires returns-2)
+    (tie.spec inserted-requires returns add-span span-requires add-t9 no-faults-requires returns-2)

@@ -29,7 +29,7 @@ part-after-inv-end : tie.Need-part-after-inv-end
 part-after-inv-end c = search needs
 
 after-inv-requires : tie.Need-after-inv-requires
-after-inv-requires c κs = word-room (ascii "inv") _ _ refl (is-word (c .before)) (c .before .before .before .before .before .pre)
+after-inv-requires c κs = (word-room (ascii "inv") _ _ refl (is-word (c .before)) (c .before .before .before .before .before .pre .0), search needs)
 
 returns : tie.Need-returns
 unfolding parseInv

@@ -1,5 +1,5 @@
 -- `read_protein_body::after_location` meets its contract.
-use mathlib.Core.Path.{_≡_, sym, _∙_}
+use mathlib.Core.Path.{sym, _∙_}
 use native.Mathlib.Omega.{arith}
 use Rattle.read_protein_edit.specs.Told.{MuTold, mu-told}
 use Rattle.read_protein_body.proofs.Laws.{mu-none, mu-le, after-found}
@@ -26,8 +26,8 @@ returns c = mu-none _ _ _ _ _ (sym (c .enum-told .given .1) ∙ c .before .befor
 prot-interval-requires : tie.Need-prot-interval-requires
 prot-interval-requires c κs = search needs
 
-add-t12 : tie.Need-add-t12
-add-t12 c = omega (arith, mu-le _ _ (c .before .before .before .before .before .before .args .l) (c .before .before .before .before .before .before .args .n) (c .before .before .before .before .before .before .args .faults) (edit (c .before .before)), c .before .before .before .before .before .before .pre .0, c .before .before .before .before .before .before .pre .1)
+add-t13 : tie.Need-add-t13
+add-t13 c = omega (arith, mu-le _ _ (c .before .before .before .before .before .before .args .l) (c .before .before .before .before .before .before .args .n) (c .before .before .before .before .before .before .args .faults) (edit (c .before .before)), c .before .before .before .before .before .before .pre .0, c .before .before .before .before .before .before .pre .1)
 
 leftmost-requires : tie.Need-leftmost-requires
 leftmost-requires c κs = search needs
@@ -44,6 +44,6 @@ after-location-spec =
     enum-told
     returns
     prot-interval-requires
-    add-t12
+    add-t13
     leftmost-requires
     returns-2)

@@ -56,14 +56,14 @@ uncertain-requires c κs = search needs
 prot-interval-requires : tie.Need-prot-interval-requires
 prot-interval-requires c κs = search needs
 
-add-t14 : tie.Need-add-t14
-add-t14 c = search needs
-
-add-t23 : tie.Need-add-t23
-add-t23 c = omega (arith, shut-le _ _ (c .before .before .before .before .before .before .before .before .before .before .before .args .l) (c .before .before .before .before .before .before .before .before .before .before .before .args .n) (c .before .before .before .before .before .before .before .before .before .before .before .args .faults) (edit (c .before .before .before .before .before .before .before)) (closed (c .before .before)), c .before .before .before .before .before .before .before .before .before .before .before .pre .0, c .before .before .before .before .before .before .before .before .before .before .before .pre .1)
+add-t15 : tie.Need-add-t15
+add-t15 c = search needs
 
 add-t24 : tie.Need-add-t24
 add-t24 c = omega (arith, shut-le _ _ (c .before .before .before .before .before .before .before .before .before .before .before .args .l) (c .before .before .before .before .before .before .before .before .before .before .before .args .n) (c .before .before .before .before .before .before .before .before .before .before .before .args .faults) (edit (c .before .before .before .before .before .before .before)) (closed (c .before .before)), c .before .before .before .before .before .before .before .before .before .before .before .pre .0, c .before .before .before .before .before .before .before .before .before .before .before .pre .1)
+
+add-t25 : tie.Need-add-t25
+add-t25 c = omega (arith, shut-le _ _ (c .before .before .before .before .before .before .before .before .before .before .before .args .l) (c .before .before .before .before .before .before .before .before .before .before .before .args .n) (c .before .before .before .before .before .before .before .before .before .before .before .args .faults) (edit (c .before .before .before .before .before .before .before)) (closed (c .before .before)), c .before .before .before .before .before .before .before .before .before .before .before .pre .0, c .before .before .before .before .before .before .before .before .before .before .before .pre .1)
 
 leftmost-requires : tie.Need-leftmost-requires
 leftmost-requires c κs = search needs
@@ -87,8 +87,8 @@ inside-brackets-spec =
     returns-2
     uncertain-requires
     prot-interval-requires
-    add-t14
-    add-t23
+    add-t15
     add-t24
+    add-t25
     leftmost-requires
     returns-3)

@@ -52,10 +52,10 @@ begins-requires : tie.Need-begins-requires
 begins-requires c κs = search needs
 
 add-k : tie.Need-add-k
-add-k c = omega (arith, closed-le _ _ (ends (c .before .before .before .before .before)) (shut c), c .before .before .before .before .before .before .before .before .before .pre)
+add-k c = omega (arith, closed-le _ _ (ends (c .before .before .before .before .before)) (shut c), c .before .before .before .before .before .before .before .before .before .pre .0)
 
 add-behind : tie.Need-add-behind
-add-behind c = omega (arith, closed-le _ _ (ends (c .before .before .before .before .before)) (shut c), c .before .before .before .before .before .before .before .before .before .pre)
+add-behind c = omega (arith, closed-le _ _ (ends (c .before .before .before .before .before)) (shut c), c .before .before .before .before .before .before .before .before .before .pre .0)
 
 uncertain-requires : tie.Need-uncertain-requires
 uncertain-requires c κs = search needs
@@ -70,14 +70,14 @@ part-after-location-end : tie.Need-part-after-location-end
 part-after-location-end c = search needs
 
 add-after-location : tie.Need-add-after-location
-add-after-location c = omega (arith, closed-le _ _ (ends (c .before .before .before .before .before .before .before)) (shut (c .before .before)), c .before .before .before .before .before .before .before .before .before .before .before .pre)
+add-after-location c = omega (arith, closed-le _ _ (ends (c .before .before .before .before .before .before .before)) (shut (c .before .before)), c .before .before .before .before .before .before .before .before .before .before .before .pre .0)
 
 after-location-requires : tie.Need-after-location-requires
 after-location-requires c κs =
     let s = c .before .before .before .before .before .before .before .before .before .before .before .args .s .now in
     let h = closed-le _ _ (ends (c .before .before .before .before .before .before .before)) (shut (c .before .before)) in
-    let r = tail-room (c .before .before .before .before .before .before .before .before .before .before .before .args .at + 1) (c .before .before .before .before .before .before .before .l .given .0 .1 .0 + 1) s (c .before .before .before .before .before .before .before .before .before .before .before .pre) h in
-    (omega arith, omega (arith, c .before .before .before .before .before .before .before .before .before .before .before .pre))
+    let r = tail-room (c .before .before .before .before .before .before .before .before .before .before .before .args .at + 1) (c .before .before .before .before .before .before .before .l .given .0 .1 .0 + 1) s (c .before .before .before .before .before .before .before .before .before .before .before .pre .0) h in
+    (omega arith, omega (arith, c .before .before .before .before .before .before .before .before .before .before .before .pre .0), search needs)
 
 returns-2 : tie.Need-returns-2
 returns-2 c = shut-found _ _ (ends (c .before .before .before .before .before .before .before .before)) (shut (c .before .before .before)) _ (c .before .before .uncertain .ensures) _ (c .after-location .ensures)
@@ -95,10 +95,10 @@ add-inside-brackets : tie.Need-add-inside-brackets
 add-inside-brackets c = search needs
 
 add-inside-brackets-2 : tie.Need-add-inside-brackets-2
-add-inside-brackets-2 c = omega (arith, interval-within (ends (c .before .before .before .before .before .before)), c .before .before .before .before .before .before .before .before .before .before .pre)
+add-inside-brackets-2 c = omega (arith, interval-within (ends (c .before .before .before .before .before .before)), c .before .before .before .before .before .before .before .before .before .before .pre .0)
 
 inside-brackets-requires : tie.Need-inside-brackets-requires
-inside-brackets-requires c κs = (tail-room _ _ (c .before .before .before .before .before .before .before .before .before .before .args .s .now) (c .before .before .before .before .before .before .before .before .before .before .pre) (interval-within (ends (c .before .before .before .before .before .before))), omega (arith, interval-within (ends (c .before .before .before .before .before .before)), c .before .before .before .before .before .before .before .before .before .before .pre))
+inside-brackets-requires c κs = (tail-room _ _ (c .before .before .before .before .before .before .before .before .before .before .args .s .now) (c .before .before .before .before .before .before .before .before .before .before .pre .0) (interval-within (ends (c .before .before .before .before .before .before))), omega (arith, interval-within (ends (c .before .before .before .before .before .before)), c .before .before .before .before .before .before .before .before .before .before .pre .0), search needs)
 
 returns-3 : tie.Need-returns-3
 returns-3 c = brackets-found _ _ (ends (c .before .before .before .before .before .before .before)) (sym (c .before .before .before .begins .ensures) ∙ c .before .before .if1 .left) _ (c .inside-brackets .ensures)

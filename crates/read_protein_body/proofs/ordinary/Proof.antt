@@ -1,12 +1,10 @@
 -- `read_protein_body::ordinary` meets its contract.
 use mathlib.Core.Path.{_≡_, sym, _∙_}
-use native.Mathlib.Omega.{arith}
 use Rattle.texts.specs.Ascii.{ascii}
 use Rattle.texts.specs.Words.{starts, starts-length}
 use Rattle.texts.specs.Slices.{tail-room}
-use lib.ListN.{length-drop}
 use mathlib.Core.Bool.{true}
-use Prim.Native.Nat.{_≤_, _+_}
+use Prim.Native.Nat.{_≤_}
 use lib.ListN.{length}
 use Rattle.read_protein_body.proofs.Laws.{ordinary-opened, ordinary-plain}
 use borrow.Author.Needs.{needs}
@@ -36,7 +34,7 @@ part-opened-end : tie.Need-part-opened-end
 part-opened-end c = search needs
 
 opened-requires : tie.Need-opened-requires
-opened-requires c κs = tail-room _ 1 (c .before .before .before .before .before .args .s .now) (c .before .before .before .before .before .pre) (bracket-le (c .before))
+opened-requires c κs = (tail-room _ 1 (c .before .before .before .before .before .args .s .now) (c .before .before .before .before .before .pre .0) (bracket-le (c .before)), search needs)
 
 returns : tie.Need-returns
 returns c = ordinary-opened _ _ (bracket (c .before .before)) _ (c .opened .ensures)

@@ -1,5 +1,5 @@
 -- `read_protein_body::plain` meets its contract.
-use mathlib.Core.Path.{_≡_, sym, _∙_}
+use mathlib.Core.Path.{sym, _∙_}
 use native.Mathlib.Omega.{arith}
 use Rattle.record.specs.declared.variant.Kind.the-variants.{Prot}
 use Rattle.read_location.specs.Told.{IntervalTold, interval-told, interval-within}
@@ -35,10 +35,10 @@ part-after-location-end : tie.Need-part-after-location-end
 part-after-location-end c = search needs
 
 add-after-location : tie.Need-add-after-location
-add-after-location c = omega (arith, interval-within (ends (c .before .before)), c .before .before .before .before .before .before .pre)
+add-after-location c = omega (arith, interval-within (ends (c .before .before)), c .before .before .before .before .before .before .pre .0)
 
 after-location-requires : tie.Need-after-location-requires
-after-location-requires c κs = (tail-room _ _ (c .before .before .before .before .before .before .args .s .now) (c .before .before .before .before .before .before .pre) (interval-within (ends (c .before .before))), omega (arith, interval-within (ends (c .before .before)), c .before .before .before .before .before .before .pre))
+after-location-requires c κs = (tail-room _ _ (c .before .before .before .before .before .before .args .s .now) (c .before .before .before .before .before .before .pre .0) (interval-within (ends (c .before .before))), omega (arith, interval-within (ends (c .before .before)), c .before .before .before .before .before .before .pre .0), search needs)
 
 returns-2 : tie.Need-returns-2
 returns-2 c = plain-found _ _ (ends (c .before .before .before)) _ (c .after-location .ensures)

@@ -1,7 +1,6 @@
 -- `read_protein_body::prot_body` meets its contract.
 use mathlib.Core.Path.{_≡_, sym, _∙_}
-use native.Mathlib.Omega.{arith}
-use Rattle.read_protein_body.proofs.Laws.{ExactTold, exact-told, exact-none, OrdinaryTold, ordinary-told, exact-found, body-none, body-open, body-found}
+use Rattle.read_protein_body.proofs.Laws.{exact-told, exact-none, OrdinaryTold, ordinary-told, exact-found, body-none, body-open, body-found}
 use mathlib.Core.Option.{none}
 use Rattle.bodies.specs.ProteinBodies.{exactBodies, firstExact}
 use borrow.Author.Needs.{needs}

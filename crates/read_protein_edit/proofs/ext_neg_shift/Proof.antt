@@ -5,9 +5,10 @@ use mathlib.Core.Bool.{true}
 use native.Mathlib.Omega.{arith}
 use lib.ListN.{length}
 use borrow.Author.Tests.{not-true, not-false}
+use Rattle.texts.specs.Slices.{tail}
 use Rattle.texts.specs.Ascii.{ascii}
 use Rattle.texts.specs.Words.{starts, starts-length}
-use Rattle.read_protein_edit.proofs.Ends.{tail, behind-residue, no-minus, no-digits, earlier-room, earlier-found}
+use Rattle.read_protein_edit.proofs.Ends.{behind-residue, no-minus, no-digits, earlier-room, earlier-found}
 use borrow.Author.Needs.{needs}
 use Rattle.read_protein_edit.proofs.ext_neg_shift.Statement.{statement}
 use Rattle.read_protein_edit.proofs.ext_neg_shift.Tie as tie
@@ -79,17 +80,17 @@ residue-part-requires c κs = search needs
 residue-part-requires-2 : tie.Need-residue-part-requires-2
 residue-part-requires-2 c κs = omega (arith, all-le (c .before .before .before))
 
-add-t10 : tie.Need-add-t10
-add-t10 c = search needs
-
-add-t24 : tie.Need-add-t24
-add-t24 c = omega (arith, all-le (c .before .before .before .before .before))
+add-t11 : tie.Need-add-t11
+add-t11 c = search needs
 
 add-t25 : tie.Need-add-t25
 add-t25 c = omega (arith, all-le (c .before .before .before .before .before))
 
 add-t26 : tie.Need-add-t26
-add-t26 c = omega (arith, all-le (c .before .before .before .before .before .before))
+add-t26 c = omega (arith, all-le (c .before .before .before .before .before))
+
+add-t27 : tie.Need-add-t27
+add-t27 c = omega (arith, all-le (c .before .before .before .before .before .before))
 
 add-faults-of : tie.Need-add-faults-of
 add-faults-of c = omega (arith, all-le (c .before .before .before .before .before .before))
@@ -128,10 +129,10 @@ ext-neg-shift-spec =
     add-k-2
     residue-part-requires
     residue-part-requires-2
-    add-t10
-    add-t24
+    add-t11
     add-t25
     add-t26
+    add-t27
     add-faults-of
     add-faults-of-2
     faults-of-requires

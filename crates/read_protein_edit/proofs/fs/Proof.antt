@@ -24,11 +24,11 @@ stop-at-requires c κs = search needs
 residue-part-requires : tie.Need-residue-part-requires
 residue-part-requires c κs = search needs
 
-add-t8 : tie.Need-add-t8
-add-t8 c = search needs
-
 add-t9 : tie.Need-add-t9
-add-t9 c = omega (arith, stop-within (c .before .before .before))
+add-t9 c = search needs
+
+add-t10 : tie.Need-add-t10
+add-t10 c = omega (arith, stop-within (c .before .before .before))
 
 returns : tie.Need-returns
 returns c =
@@ -43,6 +43,6 @@ fs-spec =
     add-stop-at-2
     stop-at-requires
     residue-part-requires
-    add-t8
     add-t9
+    add-t10
     returns)

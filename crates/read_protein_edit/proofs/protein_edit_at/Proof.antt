@@ -5,9 +5,9 @@ use mathlib.Core.Bool.{true, false}
 use mathlib.Core.List.{List}
 use native.Mathlib.Omega.{arith}
 use lib.ListN.{length}
+use Rattle.texts.specs.Slices.{tail}
 use Rattle.texts.specs.Ascii.{ascii}
 use Rattle.texts.specs.Words.{starts, starts-length}
-use Rattle.read_protein_edit.proofs.Ends.{tail}
 use Rattle.read_protein_edit.proofs.Laws.{front-le, word-room, found-fs, found-ext, found-equal, found-unknown, found-subst, found-worded}
 use borrow.Author.Needs.{needs}
 use Rattle.read_protein_edit.proofs.protein_edit_at.Statement.{statement}
@@ -72,7 +72,7 @@ part-fs-end c = search needs
 fs-requires : tie.Need-fs-requires
 fs-requires c κs =
     let n = c .before .before .before .before .before in
-    word-room _ (text n) _ (n .residue-at .ensures) (ascii "fs") (is-fs (c .before)) (n .before .before .pre)
+    (word-room _ (text n) _ (n .residue-at .ensures) (ascii "fs") (is-fs (c .before)) (n .before .before .pre .0), search needs)
 
 returns : tie.Need-returns
 returns c =
@@ -98,7 +98,7 @@ part-ext-end c = search needs
 ext-requires : tie.Need-ext-requires
 ext-requires c κs =
     let n = c .before .before .before .before .before .before .before .before in
-    word-room _ (text n) _ (n .residue-at .ensures) (ascii "ext") (is-ext (c .before)) (n .before .before .pre)
+    (word-room _ (text n) _ (n .residue-at .ensures) (ascii "ext") (is-ext (c .before)) (n .before .before .pre .0), search needs)
 
 returns-2 : tie.Need-returns-2
 returns-2 c =

@@ -3,8 +3,8 @@ use Prim.Native.Nat.{_+_, _≤_}
 use mathlib.Core.Path.{ap}
 use native.Mathlib.Omega.{arith}
 use lib.ListN.{length, length-drop}
-use Rattle.texts.specs.Slices.{tail-part}
-use Rattle.read_protein_edit.proofs.Ends.{tail, terminal-le, length-le, stop-none, stop-some}
+use Rattle.texts.specs.Slices.{tail, tail-part}
+use Rattle.read_protein_edit.proofs.Ends.{terminal-le, length-le, stop-none, stop-some}
 use borrow.Author.Needs.{needs}
 use Rattle.read_protein_edit.proofs.stop_at.Statement.{statement}
 use Rattle.read_protein_edit.proofs.stop_at.Tie as tie
@@ -48,8 +48,8 @@ length-at-requires c κs = search needs
 span-requires : tie.Need-span-requires
 span-requires c κs = omega (arith, t-le (c .before .before .before .before))
 
-add-t12 : tie.Need-add-t12
-add-t12 c = omega (arith, all-le (c .before .before .before))
+add-t13 : tie.Need-add-t13
+add-t13 c = omega (arith, all-le (c .before .before .before))
 
 returns-2 : tie.Need-returns-2
 returns-2 c =
@@ -70,5 +70,5 @@ stop-at-spec =
     add-length-at
     length-at-requires
     span-requires
-    add-t12
+    add-t13
     returns-2)

@@ -33,8 +33,8 @@ add-span c = search needs
 span-requires : tie.Need-span-requires
 span-requires c κs = omega (arith, delins-room c)
 
-add-t15 : tie.Need-add-t15
-add-t15 c = omega (arith, delins-room (c .before))
+add-t16 : tie.Need-add-t16
+add-t16 c = omega (arith, delins-room (c .before))
 
 no-faults-requires : tie.Need-no-faults-requires
 no-faults-requires c κs = search needs
@@ -71,8 +71,8 @@ add-span-2 c = search needs
 span-requires-2 : tie.Need-span-requires-2
 span-requires-2 c κs = omega (arith, ins-room c)
 
-add-t27 : tie.Need-add-t27
-add-t27 c = omega (arith, ins-room (c .before))
+add-t28 : tie.Need-add-t28
+add-t28 c = omega (arith, ins-room (c .before))
 
 no-faults-requires-3 : tie.Need-no-faults-requires-3
 no-faults-requires-3 c κs = search needs
@@ -122,7 +122,7 @@ worded-spec =
     residues-behind-requires
     add-span
     span-requires
-    add-t15
+    add-t16
     no-faults-requires
     returns
     slice-aggregate-begins
@@ -133,7 +133,7 @@ worded-spec =
     residues-behind-requires-2
     add-span-2
     span-requires-2
-    add-t27
+    add-t28
     no-faults-requires-3
     returns-3
     slice-aggregate-begins-2

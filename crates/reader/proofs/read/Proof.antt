@@ -1,6 +1,5 @@
 -- `reader::read` meets its contract.
-use mathlib.Core.Path.{_≡_, sym, _∙_}
-use native.Mathlib.Omega.{arith}
+use mathlib.Core.Path.{sym, _∙_}
 use Rattle.promise.specs.Reading.{Reads.tooLong}
 use Rattle.reader.proofs.Laws.{TextTold, text-told, reads-nothing, reads-unfit, reads-accepted}
 use borrow.Author.Needs.{needs}
@@ -8,11 +7,14 @@ use Rattle.reader.proofs.read.Statement.{statement}
 use Rattle.reader.proofs.read.Tie as tie
 
 -- the text that was read
-told : (c : tie.After-v) → TextTold (c .before .before .before .before .before .args .text .now) (c .v .given .0 .0) (c .v .given .0 .1 .0)
+told : (c : tie.After-v) → TextTold (c .before .before .before .before .before .before .before .args .text .now) (c .v .given .0 .0) (c .v .given .0 .1 .0)
 told c = text-told _ _ _ (sym (c .v .given .1) ∙ c .before .before .hgvs-variant .ensures)
 
 returns : tie.Need-returns
 returns c = tooLong (c .if1 .taken)
+
+classes-requires : tie.Need-classes-requires
+classes-requires c κs = search needs
 
 hgvs-variant-requires : tie.Need-hgvs-variant-requires
 hgvs-variant-requires c κs = search needs
@@ -24,7 +26,7 @@ enum-told : tie.Need-enum-told
 enum-told c = search needs
 
 returns-2 : tie.Need-returns-2
-returns-2 c = reads-nothing _ (c .before .before .before .if1 .left) (sym (c .enum-told .given .1) ∙ c .before .before .hgvs-variant .ensures)
+returns-2 c = reads-nothing _ (c .before .before .before .before .before .if1 .left) (sym (c .enum-told .given .1) ∙ c .before .before .hgvs-variant .ensures)
 
 enum-told-2 : tie.Need-enum-told-2
 enum-told-2 c = search needs
@@ -33,16 +35,17 @@ enum-known-unfit : tie.Need-enum-known-unfit
 enum-known-unfit c = search needs
 
 returns-3 : tie.Need-returns-3
-returns-3 c = reads-accepted _ (c .before .before .before .before .before .before .if1 .left) (told (c .before .before .before)) (c .enum-told2 .given .1)
+returns-3 c = reads-accepted _ (c .before .before .before .before .before .before .before .before .if1 .left) (told (c .before .before .before)) (c .enum-told2 .given .1)
 
 returns-4 : tie.Need-returns-4
-returns-4 c = reads-unfit _ (c .before .before .before .before .before .before .before .if1 .left) (told (c .before .before .before .before)) _ (c .before .unfit .given .1)
+returns-4 c = reads-unfit _ (c .before .before .before .before .before .before .before .before .before .if1 .left) (told (c .before .before .before .before)) _ (c .before .unfit .given .1)
 
 pub read-spec : {M : Type 1} → statement M
 read-spec =
     tie.close
     (tie.spec
     returns
+    classes-requires
     hgvs-variant-requires
     enum-known-v
     enum-told

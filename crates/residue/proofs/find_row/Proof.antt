@@ -12,16 +12,16 @@ use Rattle.residue.proofs.find_row.Statement.{statement}
 use Rattle.residue.proofs.find_row.Tie as tie
 
 abbrev Inv-loop : tie.InvT-loop
-Inv-loop s i j₀ j = (j < 3) × (starts (getD rows i []) s ≡ starts (drop j (getD rows i [])) (drop j s))
+Inv-loop s table i j₀ j = (j < 3) × (starts (getD rows i []) s ≡ starts (drop j (getD rows i [])) (drop j s))
 
 abbrev μ-loop : tie.MeasureT-loop
-μ-loop s i j₀ j = 3 - j
+μ-loop s table i j₀ j = 3 - j
 
 abbrev Inv-rows : tie.InvT-rows
-Inv-rows s i₀ i = (i ≤ 25) × (rowOf s ≡ firstFrom i (drop i rows) s)
+Inv-rows s table i₀ i = (i ≤ 25) × (rowOf s ≡ firstFrom i (drop i rows) s)
 
 abbrev μ-rows : tie.MeasureT-rows
-μ-rows s i₀ i = 25 - i
+μ-rows s table i₀ i = 25 - i
 
 returns : tie.Need-returns Inv-loop μ-loop Inv-rows μ-rows
 returns c = sym (short-none (c .before .args .s .now) (c .if1 .taken))

@@ -1,0 +1,10 @@
+-- The table is the list of the numbers of 0 to 255, which is computed.
+use Rattle.alphabet.proofs.Table.{table}
+use Rattle.alphabet.proofs.classes.Statement.{statement}
+use Rattle.alphabet.proofs.classes.Tie as tie
+
+returns : tie.Need-returns
+returns c = table
+
+pub classes-spec : {M : Type 1} → statement M
+classes-spec = tie.close (tie.spec returns)

@@ -1,0 +1,91 @@
+-- From the answers for positions to the answer for an interval.
+use Prim.Native.Nat.{ℕ, _+_, _-_, _≤_}
+use mathlib.Core.Path.{_≡_, sym, ap, _∙_}
+use mathlib.Core.List.{List, _++_}
+use mathlib.Core.Option.{none, some}
+use mathlib.Core.Bool.{true, false}
+use native.Mathlib.Omega.{arith}
+use lib.ListN.{length, take, drop, length-append, length-drop}
+use Rattle.texts.specs.Ascii.{ascii}
+use Rattle.texts.specs.Slices.{tail-part, tail-at, tail-beyond}
+use Rattle.texts.specs.Words.{starts, starts-length}
+use Rattle.record.specs.declared.variant.Kind.{Kind}
+use Rattle.grammar.specs.Positions as Tree
+use Rattle.grammar.specs.Positions.{printPosition}
+use Rattle.grammar.specs.Shapes.{Interval.one, Interval.two, Mu.certain}
+use Rattle.grammar.specs.Numbers.{positionNumbers}
+use Rattle.lang.specs.Lang.{within}
+use Rattle.lang.specs.IntervalLang.{parseInterval}
+use Rattle.lang.specs.MuReading as Reading
+use Rattle.scan.specs.declared.Faults.{Faults}
+use Rattle.scan.specs.Faults.{faults, first, faults-append}
+use Rattle.location.specs.Parse.{parsePosition}
+use Rattle.location.specs.Languages.{posLang, endsLang}
+use Rattle.read_location.specs.declared.Position.{Position}
+use Rattle.read_location.specs.declared.PositionRead.the-variants as PR
+use Rattle.read_location.specs.declared.LocationRead.the-variants.{Nothing, Found}
+use Rattle.read_location.specs.Told.{PositionTold, position-unread}
+use Rattle.read_location.specs.Answer.{positionOf, positionAnswer, intervalOf, intervalAnswer}
+
+module _ (k : Kind) (at : ℕ) (s : List ℕ) where
+  pub interval-none : PR.Nothing ≡ positionAnswer k at (parsePosition k s) → Nothing ≡ intervalAnswer k at (endsLang k .parse s)
+  unfolding parseInterval intervalAnswer
+  interval-none e = rw (position-unread k at s e)
+
+  -- where t stands first
+  module _ (t : Tree.Position k) (q : parsePosition k s ≡ some t) where
+    one-is : starts (ascii "_") (drop (length (printPosition k t)) s) ≡ false
+        → Found (intervalOf k true at (one t)) (length (printPosition k t)) (faults (positionNumbers k at t)) ≡ intervalAnswer k at (endsLang k .parse s)
+    unfolding parseInterval intervalAnswer
+    one-is j = rw (q, j)
+
+    module _ (j : starts (ascii "_") (drop (length (printPosition k t)) s) ≡ true) where
+      half-is : parsePosition k (drop 1 (drop (length (printPosition k t)) s)) ≡ none → Nothing ≡ intervalAnswer k at (endsLang k .parse s)
+      unfolding parseInterval intervalAnswer
+      half-is h = rw (q, j, h)
+
+      two-is : (u : Tree.Position k) → parsePosition k (drop 1 (drop (length (printPosition k t)) s)) ≡ some u
+          → Found (intervalOf k true at (two t u)) (length (printPosition k t) + 1 + length (printPosition k u)) (first (faults (positionNumbers k at t)) (faults (positionNumbers k (at + length (printPosition k t) + 1) u))) ≡ intervalAnswer k at (endsLang k .parse s)
+      unfolding parseInterval intervalAnswer
+      two-is u h =
+          let l : length (printPosition k t) + 1 + length (printPosition k u) ≡ length (printPosition k t ++ (ascii "_" ++ printPosition k u)) = simp length-append (omega arith) in
+          rw (q, j, h, l, faults-append (positionNumbers k at t) (positionNumbers k (at + length (printPosition k t) + 1) u))
+
+-- what was read first
+module _ {k : Kind} {at : ℕ} {s : List ℕ} {p : Position} {n : ℕ} {f : Faults} (a : PositionTold k at s p n f) where
+  pub start-le : n ≤ length s
+  start-le = omega (arith, a .long, within (posLang k) s (a .tree) (a .parsed))
+
+  rest-is : take (length s - n) (drop n s) ≡ drop (length (printPosition k (a .tree))) s
+  rest-is = tail-at s (a .long)
+
+  pub interval-one : starts (ascii "_") (take (length s - n) (drop n s)) ≡ false → Found (record { certain = true; start = p; end = p }) n f ≡ intervalAnswer k at (endsLang k .parse s)
+  interval-one j = cc (one-is k at s (a .tree) (a .parsed) (sym (ap (starts (ascii "_")) rest-is) ∙ j))
+
+  module _ (j : starts (ascii "_") (take (length s - n) (drop n s)) ≡ true) where
+    joined : starts (ascii "_") (drop (length (printPosition k (a .tree))) s) ≡ true
+    joined = sym (ap (starts (ascii "_")) rest-is) ∙ j
+
+    pub join-le : n + 1 ≤ length s
+    join-le = omega (arith, starts-length (ascii "_") (drop n s) (rw (tail-part n s) at j), length-drop n s, start-le)
+
+    next-is : take (length s - (n + 1)) (drop (n + 1) s) ≡ drop 1 (drop (length (printPosition k (a .tree))) s)
+    next-is = tail-beyond 1 s (a .long)
+
+    pub interval-half : PR.Nothing ≡ positionAnswer k (at + (n + 1)) (parsePosition k (take (length s - (n + 1)) (drop (n + 1) s))) → Nothing ≡ intervalAnswer k at (endsLang k .parse s)
+    interval-half h = half-is k at s (a .tree) (a .parsed) joined (ap (parsePosition k) (sym next-is) ∙ position-unread k (at + (n + 1)) _ h)
+
+    -- what was read behind the bar
+    module _ {u : Position} {m : ℕ} {g : Faults} (b : PositionTold k (at + (n + 1)) (take (length s - (n + 1)) (drop (n + 1) s)) u m g) where
+      pub end-le : n + 1 + m ≤ length s
+      end-le =
+          let y = take (length s - (n + 1)) (drop (n + 1) s) in
+          let w : length y ≡ length s - (n + 1) = rw (tail-part (n + 1) s) (length-drop (n + 1) s) in
+          omega (arith, b .long, within (posLang k) y (b .tree) (b .parsed), join-le)
+
+      pub interval-two : (x : Faults) → x ≡ first f g → Found (record { certain = true; start = p; end = u }) (n + 1 + m) x ≡ intervalAnswer k at (endsLang k .parse s)
+      interval-two x ex =
+          let place : at + (n + 1) ≡ at + length (printPosition k (a .tree)) + 1 = omega (arith, a .long) in
+          let means : u ≡ positionOf k (at + length (printPosition k (a .tree)) + 1) (b .tree) = b .means ∙ ap (λ (i : ℕ). positionOf k i (b .tree)) place in
+          let wrong : g ≡ faults (positionNumbers k (at + length (printPosition k (a .tree)) + 1) (b .tree)) = b .wrong ∙ ap (λ (i : ℕ). faults (positionNumbers k i (b .tree))) place in
+          cc (two-is k at s (a .tree) (a .parsed) joined (b .tree) (ap (parsePosition k) (sym next-is) ∙ b .parsed))

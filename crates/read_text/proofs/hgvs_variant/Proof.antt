@@ -1,0 +1,104 @@
+-- `read_text::hgvs_variant` meets its contract.
+use mathlib.Core.Path.{_≡_, sym, _∙_}
+use native.Mathlib.Omega.{arith}
+use mathlib.Core.Option.{some}
+use Prim.Native.Nat.{_+_, _-_}
+use lib.ListN.{length, take, drop}
+use Rattle.headers.specs.Kinds.{kindLang}
+use Rattle.texts.specs.Slices.{tail-room}
+use Rattle.read_text.proofs.Laws.{HeaderTold, header-told, no-header, header-le, kind-told, no-kind, kind-le, no-body, text-found}
+use borrow.Author.Needs.{needs}
+use Rattle.read_text.proofs.hgvs_variant.Statement.{statement}
+use Rattle.read_text.proofs.hgvs_variant.Tie as tie
+
+-- the header that was read, and the kind behind it
+head : (c : tie.After-header) → HeaderTold (c .before .before .before .before .args .s .now) (c .header .given .0 .0) (c .header .given .0 .1 .0)
+head c = header-told _ _ _ (sym (c .header .given .1) ∙ c .before .before .header-at .ensures)
+
+letter : (c : tie.After-kind) → kindLang .parse (take (length (c .before .before .before .before .before .before .before .before .before .args .s .now) - c .before .before .before .before .before .header .given .0 .1 .0) (drop (c .before .before .before .before .before .header .given .0 .1 .0) (c .before .before .before .before .before .before .before .before .before .args .s .now))) ≡ some (c .kind .given .0 .0)
+letter c = kind-told _ _ (sym (c .kind .given .1) ∙ c .before .before .kind-at .ensures)
+
+header-at-requires : tie.Need-header-at-requires
+header-at-requires c κs = search needs
+
+enum-known-header : tie.Need-enum-known-header
+enum-known-header c = search needs
+
+enum-told : tie.Need-enum-told
+enum-told c = search needs
+
+returns : tie.Need-returns
+returns c = no-header _ (sym (c .enum-told .given .1) ∙ c .before .before .header-at .ensures)
+
+sub-kind-at : tie.Need-sub-kind-at
+sub-kind-at c = header-le _ (head (c .before))
+
+part-kind-at-start : tie.Need-part-kind-at-start
+part-kind-at-start c = header-le _ (head (c .before))
+
+part-kind-at-end : tie.Need-part-kind-at-end
+part-kind-at-end c = search needs
+
+kind-at-requires : tie.Need-kind-at-requires
+kind-at-requires c κs = search needs
+
+enum-known-kind : tie.Need-enum-known-kind
+enum-known-kind c = search needs
+
+enum-told-2 : tie.Need-enum-told-2
+enum-told-2 c = search needs
+
+returns-2 : tie.Need-returns-2
+returns-2 c = no-kind _ (head (c .before .before .before .before .before)) (sym (c .enum-told2 .given .1) ∙ c .before .before .kind-at .ensures)
+
+add-k : tie.Need-add-k
+add-k c = omega (arith, kind-le _ (head (c .before .before .before .before .before .before)) (letter (c .before)))
+
+sub-body-at : tie.Need-sub-body-at
+sub-body-at c = kind-le _ (head (c .before .before .before .before .before .before)) (letter (c .before))
+
+part-body-at-start : tie.Need-part-body-at-start
+part-body-at-start c = kind-le _ (head (c .before .before .before .before .before .before)) (letter (c .before))
+
+part-body-at-end : tie.Need-part-body-at-end
+part-body-at-end c = search needs
+
+body-at-requires : tie.Need-body-at-requires
+body-at-requires c κs = (omega (arith, tail-room {most = 4096} 0 (c .before .before .before .before .before .before .before .header .given .0 .1 .0 + 3) (c .before .before .before .before .before .before .before .before .before .before .before .args .s .now) (omega (arith, c .before .before .before .before .before .before .before .before .before .before .before .pre .0)) (kind-le _ (head (c .before .before .before .before .before .before .before)) (letter (c .before .before)))), search needs)
+
+enum-known-body : tie.Need-enum-known-body
+enum-known-body c = search needs
+
+enum-told-3 : tie.Need-enum-told-3
+enum-told-3 c = search needs
+
+returns-3 : tie.Need-returns-3
+returns-3 c = no-body _ (head (c .before .before .before .before .before .before .before .before .before .before)) (letter (c .before .before .before .before .before)) (sym (c .enum-told3 .given .1) ∙ c .before .before .body-at .ensures)
+
+returns-4 : tie.Need-returns-4
+returns-4 c = text-found _ (head (c .before .before .before .before .before .before .before .before .before .before .before)) (letter (c .before .before .before .before .before .before)) _ _ (sym (c .before .body .given .1) ∙ c .before .before .before .body-at .ensures)
+
+pub hgvs-variant-spec : {M : Type 1} → statement M
+hgvs-variant-spec =
+    tie.close
+    (tie.spec
+    header-at-requires
+    enum-known-header
+    enum-told
+    returns
+    sub-kind-at
+    part-kind-at-start
+    part-kind-at-end
+    kind-at-requires
+    enum-known-kind
+    enum-told-2
+    returns-2
+    add-k
+    sub-body-at
+    part-body-at-start
+    part-body-at-end
+    body-at-requires
+    enum-known-body
+    enum-told-3
+    returns-3
+    returns-4)
