@@ -56,7 +56,7 @@ fn terminal_at(s: &[u8]) -> usize
 
 // Behind a terminal: digits, `?` or nothing.
 fn length_at(table: &[u8; 256], s: &[u8], at: usize) -> LengthRead
-    requires { ⌜ IsTable (now table) ⌝ }
+    requires { ⌜ (at ≤ 4096) × IsTable (now table) ⌝ }
     ensures { λ r. ⌜ r ≡ lengthRead at (lengthAt (now (s .entry))) ⌝ }
 {
     let n = number::number_at(table, s, Sign::Plain);

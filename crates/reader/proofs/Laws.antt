@@ -1,5 +1,5 @@
 -- What the answer for a whole text says, and which outcome of reading it is.
-use Prim.Native.Nat.{ℕ, _≤_}
+use Prim.Native.Nat.{ℕ, _-_, _≤_}
 use mathlib.Core.Path.{_≡_, refl, sym, ap, _∙_}
 use mathlib.Core.List.{List}
 use mathlib.Core.Option.{Option, none, some}
@@ -14,7 +14,6 @@ use Rattle.bodies.specs.WholeText.{parseText}
 use Rattle.bodies.specs.Trees.{parsed-tree, no-tree}
 use Rattle.promise.specs.Outcome.{Outcome.given, Outcome.refused, limit}
 use Rattle.promise.specs.Reading.{Reads, Reads.notInGrammar, Reads.doesNotFit, Reads.accepted}
-use Rattle.scan.specs.declared.Place.the-variants.{Nowhere, At}
 use Rattle.scan.specs.declared.Faults.{Faults}
 use Rattle.scan.specs.Faults.{faults, placeOf}
 use Rattle.read_text.specs.declared.TextRead.the-variants.{Nothing, Found}
@@ -42,18 +41,17 @@ module _ (s : List ℕ) (short : length s ≤ limit) where
       (λ x q z. absurd (let y : _≡_ {A = ℕ} 0 1 = cc in omega arith))
 
   module _ {v : HgvsVariant} {f : Faults} (x : TextTold s v f) where
-    pub reads-unfit : (place : ℕ) → f .unfit ≡ At place → Reads allLetters s (refused 3 place)
-    reads-unfit place e =
-        doesNotFit short (x .tree) (parsed-tree allLetters alphabets s (x .tree) (x .parsed)) place (go (misfit (numbersAt 0 (x .tree))) (sym (x .wrong) ∙ e))
+    pub reads-unfit : (f .unfit ≡ 0 → ⊥) → Reads allLetters s (refused 3 (f .unfit - 1))
+    reads-unfit n = doesNotFit short (x .tree) (parsed-tree allLetters alphabets s (x .tree) (x .parsed)) (f .unfit - 1) (go (misfit (numbersAt 0 (x .tree))) (x .wrong))
       where
-        go : (o : Option ℕ) → placeOf o ≡ At place → o ≡ some place
-        go none k = absurd (let z : _≡_ {A = ℕ} 0 1 = cc in omega arith)
-        go (some i) k = let j : i ≡ place = cc in ap some j
+        go : (o : Option ℕ) → f .unfit ≡ placeOf o → o ≡ some (f .unfit - 1)
+        go none k = absurd (n k)
+        go (some i) k = ap some (omega arith)
 
-    pub reads-accepted : f .unfit ≡ Nowhere → Reads allLetters s (given v)
+    pub reads-accepted : f .unfit ≡ 0 → Reads allLetters s (given v)
     reads-accepted e =
         rw (x .means) (accepted short (x .tree) (parsed-tree allLetters alphabets s (x .tree) (x .parsed)) (go (misfit (numbersAt 0 (x .tree))) (sym (x .wrong) ∙ e)))
       where
-        go : (o : Option ℕ) → placeOf o ≡ Nowhere → o ≡ none
+        go : (o : Option ℕ) → placeOf o ≡ 0 → o ≡ none
         go none k = refl
-        go (some i) k = absurd (let z : _≡_ {A = ℕ} 0 1 = cc in omega arith)
+        go (some i) k = absurd (omega arith)

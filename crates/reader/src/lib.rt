@@ -1,7 +1,6 @@
 // Reading any bytes.
 use read_text::TextRead;
 use record::answers::ReadAnswer;
-use scan::Place;
 ghost use Rattle.grammar.specs.Texts.{allLetters};
 ghost use Rattle.promise.specs.Outcome.{readOutcome};
 ghost use Rattle.promise.specs.Reading.{Reads};
@@ -18,8 +17,8 @@ pub fn read(text: &[u8]) -> ReadAnswer
         return ReadAnswer::NotInGrammar;
     };
     let unfit = faults.unfit;
-    match unfit {
-        Place::Nowhere => ReadAnswer::Accepted(v),
-        Place::At(place) => ReadAnswer::DoesNotFit(place),
+    if unfit == 0 {
+        return ReadAnswer::Accepted(v);
     }
+    ReadAnswer::DoesNotFit(unfit - 1)
 }

@@ -1,6 +1,6 @@
 -- The faults of a row of numbers: the leftmost place of each kind.
-use Prim.Native.Nat.{ℕ}
-use mathlib.Core.Path.{_≡_, refl, sym, ap, _∙_}
+use Prim.Native.Nat.{ℕ, zero, suc}
+use mathlib.Core.Path.{_≡_, refl, sym, ap}
 use mathlib.Core.List.{List, [], _∷_, _++_}
 use mathlib.Core.Option.{Option, none as nothing, some}
 use mathlib.Core.Bool.{Bool, true, false, cond}
@@ -8,27 +8,26 @@ use Rattle.number.specs.declared.Sign.{Sign}
 use Rattle.number.specs.Digits.{val}
 use Rattle.number.specs.Reading.{fits}
 use Rattle.grammar.specs.Numbers.{Numeral, Numeral.numeral, misfit}
-use Rattle.scan.specs.declared.Place.{Place}
-use Rattle.scan.specs.declared.Place.the-variants.{Nowhere, At}
 use Rattle.scan.specs.declared.Faults.{Faults}
 
-abbrev pub placeOf : Option ℕ → Place
-placeOf nothing = Nowhere
-placeOf (some k) = At k
+-- a place and 1 more, or 0
+abbrev pub placeOf : Option ℕ → ℕ
+placeOf nothing = 0
+placeOf (some k) = suc k
 
 unfoldable pub faults : List Numeral → Faults
 faults ns = record { unfit = placeOf (misfit ns) }
 
 abbrev pub none : Faults
-none = record { unfit = Nowhere }
+none = record { unfit = 0 }
 
 abbrev pub unfitUnless : Bool → ℕ → Faults
 unfitUnless true k = none
-unfitUnless false k = record { unfit = At k }
+unfitUnless false k = record { unfit = suc k }
 
-abbrev pub firstPlace : Place → Place → Place
-firstPlace Nowhere q = q
-firstPlace (At k) q = At k
+abbrev pub firstPlace : ℕ → ℕ → ℕ
+firstPlace zero q = q
+firstPlace (suc k) q = suc k
 
 abbrev pub first : Faults → Faults → Faults
 first f g = record { unfit = firstPlace (f .unfit) (g .unfit) }
@@ -56,9 +55,13 @@ faults-append (numeral k sign ds ∷ ms) ns = go (fits sign (val ds)) (faults-ap
     go true h = h
     go false h = refl
 
-module _ (f g : Faults) where
-  pub first-left : (k : ℕ) → f .unfit ≡ At k → f ≡ first f g
-  first-left k e = ap (λ (p : Place). record { unfit = p }) (e ∙ sym (ap (λ (p : Place). firstPlace p (g .unfit)) e))
+first-there : (p q : ℕ) → (p ≡ 0 → ⊥) → p ≡ firstPlace p q
+first-there zero q n = absurd (n refl)
+first-there (suc k) q n = refl
 
-  pub first-right : f .unfit ≡ Nowhere → g ≡ first f g
-  first-right e = ap (λ (p : Place). record { unfit = p }) (sym (ap (λ (p : Place). firstPlace p (g .unfit)) e))
+module _ (f g : Faults) where
+  pub first-left : (f .unfit ≡ 0 → ⊥) → f ≡ first f g
+  first-left n = ap (λ (p : ℕ). record { unfit = p }) (first-there (f .unfit) (g .unfit) n)
+
+  pub first-right : f .unfit ≡ 0 → g ≡ first f g
+  first-right e = ap (λ (p : ℕ). record { unfit = p }) (sym (ap (λ (p : ℕ). firstPlace p (g .unfit)) e))

@@ -2,20 +2,15 @@
 use number::Number;
 use record::spans::Span;
 ghost use mathlib.Core.Path.{_≡_};
-ghost use Prim.Native.Nat.{_+_, _<_, _^_};
+ghost use Prim.Native.Nat.{_+_, _≤_, _<_, _^_};
 ghost use Rattle.texts.specs.Words.{starts};
 ghost use Rattle.texts.specs.Brackets.{opening as openingOf};
 ghost use Rattle.grammar.specs.Records.{span as spanFrom};
 ghost use Rattle.scan.specs.Faults.{none as noFault, unfitUnless, first};
 
-pub enum Place {
-    Nowhere,
-    At(usize),
-}
-
-// The leftmost place of each kind of fault.
+// The leftmost place of each kind of fault, and 1 more; 0 where there is none. A number is handed on in a register, an enum is not.
 pub struct Faults {
-    pub unfit: Place,
+    pub unfit: usize,
 }
 
 // The word is the first bytes of s.
@@ -59,21 +54,18 @@ pub fn span(at: usize, n: usize) -> Span
 pub fn no_faults() -> Faults
     ensures { λ r. ⌜ r ≡ noFault ⌝ }
 {
-    Faults {
-        unfit: Place::Nowhere,
-    }
+    Faults { unfit: 0 }
 }
 
 // What is wrong with a number whose first digit stands at `at`.
 pub fn faults_of(at: usize, n: Number) -> Faults
+    requires { ⌜ at ≤ 4096 ⌝ }
     ensures { λ r. ⌜ r ≡ unfitUnless (n .fits) at ⌝ }
 {
     if n.fits {
         no_faults()
     } else {
-        Faults {
-            unfit: Place::At(at),
-        }
+        Faults { unfit: at + 1 }
     }
 }
 
@@ -81,9 +73,8 @@ pub fn faults_of(at: usize, n: Number) -> Faults
 pub fn leftmost(a: Faults, b: Faults) -> Faults
     ensures { λ r. ⌜ r ≡ first a b ⌝ }
 {
-    let place = a.unfit;
-    match place {
-        Place::At(_) => a,
-        Place::Nowhere => b,
+    if a.unfit == 0 {
+        return b;
     }
+    a
 }

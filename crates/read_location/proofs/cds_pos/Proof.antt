@@ -69,7 +69,7 @@ add-faults-of : tie.Need-add-faults-of
 add-faults-of c = omega (arith, mark-le (c .before .before .before .before .before .before .before .before .before .before .before), c .before .before .before .before .before .before .before .before .before .before .before .before .before .pre .0)
 
 faults-of-requires : tie.Need-faults-of-requires
-faults-of-requires c κs = search needs
+faults-of-requires c κs = omega (arith, mark-le (c .before .before .before .before .before .before .before .before .before .before .before), c .before .before .before .before .before .before .before .before .before .before .before .before .before .pre .0)
 
 leftmost-requires : tie.Need-leftmost-requires
 leftmost-requires c κs = search needs

@@ -49,7 +49,7 @@ add-faults-of : tie.Need-add-faults-of
 add-faults-of c = omega (arith, residue-le (c .before .before .before .before .before .before .before .before .before), c .before .before .before .before .before .before .before .before .before .before .before .pre .0)
 
 faults-of-requires : tie.Need-faults-of-requires
-faults-of-requires c κs = search needs
+faults-of-requires c κs = omega (arith, residue-le (c .before .before .before .before .before .before .before .before .before), c .before .before .before .before .before .before .before .before .before .before .before .pre .0)
 
 returns-3 : tie.Need-returns-3
 returns-3 c =

@@ -99,7 +99,7 @@ add-faults-of-2 : tie.Need-add-faults-of-2
 add-faults-of-2 c = omega (arith, all-le (c .before .before .before .before .before .before))
 
 faults-of-requires : tie.Need-faults-of-requires
-faults-of-requires c κs = search needs
+faults-of-requires c κs = omega (arith, all-le (c .before .before .before .before .before .before))
 
 returns-3 : tie.Need-returns-3
 returns-3 c =

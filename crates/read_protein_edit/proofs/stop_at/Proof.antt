@@ -43,7 +43,7 @@ add-length-at : tie.Need-add-length-at
 add-length-at c = omega (arith, t-le (c .before .before))
 
 length-at-requires : tie.Need-length-at-requires
-length-at-requires c κs = search needs
+length-at-requires c κs = (omega (arith, t-le (c .before .before)), search needs)
 
 span-requires : tie.Need-span-requires
 span-requires c κs = omega (arith, t-le (c .before .before .before .before))

@@ -28,17 +28,18 @@ enum-told c = search needs
 returns-2 : tie.Need-returns-2
 returns-2 c = reads-nothing _ (c .before .before .before .before .before .if1 .left) (sym (c .enum-told .given .1) ∙ c .before .before .hgvs-variant .ensures)
 
-enum-told-2 : tie.Need-enum-told-2
-enum-told-2 c = search needs
-
-enum-known-unfit : tie.Need-enum-known-unfit
-enum-known-unfit c = search needs
-
 returns-3 : tie.Need-returns-3
-returns-3 c = reads-accepted _ (c .before .before .before .before .before .before .before .before .if1 .left) (told (c .before .before .before)) (c .enum-told2 .given .1)
+returns-3 c =
+    let v = c .before .before in
+    reads-accepted _ (v .before .before .before .before .before .if1 .left) (told v) (c .if2 .taken)
+
+sub-t6 : tie.Need-sub-t6
+sub-t6 c = search needs
 
 returns-4 : tie.Need-returns-4
-returns-4 c = reads-unfit _ (c .before .before .before .before .before .before .before .before .before .if1 .left) (told (c .before .before .before .before)) _ (c .before .unfit .given .1)
+returns-4 c =
+    let v = c .before .before in
+    reads-unfit _ (v .before .before .before .before .before .if1 .left) (told v) (c .if2 .left)
 
 pub read-spec : {M : Type 1} → statement M
 read-spec =
@@ -50,7 +51,6 @@ read-spec =
     enum-known-v
     enum-told
     returns-2
-    enum-told-2
-    enum-known-unfit
     returns-3
+    sub-t6
     returns-4)
