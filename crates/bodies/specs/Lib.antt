@@ -4,3 +4,4 @@ pub mod ProteinSound
 pub mod BodyLang
 pub mod WholeText
 pub mod Trees
+pub mod Settled

@@ -11,7 +11,9 @@ ghost use Rattle.c_boundary.specs.Answers.{Checks, Rewrites, Gauges};
 pub extern "C" fn saltwhistle_check(text: &[u8]) -> Answer
     ensures { λ r. ⌜ Checks (now (text .entry)) r ⌝ }
 {
-    match reader::read(text) {
+    let r = reader::reading_of(text);
+    let answer = r.answer;
+    match answer {
         ReadAnswer::Accepted(_) => c_answer::bare(0, 0),
         ReadAnswer::TooLong => c_answer::bare(1, 0),
         ReadAnswer::NotInGrammar => c_answer::bare(2, 0),
@@ -24,8 +26,15 @@ pub extern "C" fn saltwhistle_check(text: &[u8]) -> Answer
 pub extern "C" fn saltwhistle_shortest(text: &[u8], output: &mut [u8]) -> Answer
     ensures { λ r. ⌜ Rewrites (ToWrite allLetters) (now (text .entry)) (now (output .entry)) r (now (output .exit)) ⌝ }
 {
-    match reader::read(text) {
-        ReadAnswer::Accepted(v) => c_answer::of_write(writer::write(text, v, output)),
+    let r = reader::reading_of(text);
+    let answer = r.answer;
+    match answer {
+        ReadAnswer::Accepted(v) => c_answer::of_write(rewriter::rewrite(
+            text,
+            v,
+            r.settled,
+            output,
+        )),
         ReadAnswer::TooLong => c_answer::bare(1, 0),
         ReadAnswer::NotInGrammar => c_answer::bare(2, 0),
         ReadAnswer::DoesNotFit(place) => c_answer::bare(3, place as u64),
@@ -37,7 +46,9 @@ pub extern "C" fn saltwhistle_shortest(text: &[u8], output: &mut [u8]) -> Answer
 pub extern "C" fn saltwhistle_noref(text: &[u8], output: &mut [u8]) -> Answer
     ensures { λ r. ⌜ Rewrites (NoRefText allLetters) (now (text .entry)) (now (output .entry)) r (now (output .exit)) ⌝ }
 {
-    match reader::read(text) {
+    let r = reader::reading_of(text);
+    let answer = r.answer;
+    match answer {
         ReadAnswer::Accepted(v) => c_answer::of_write(writer::write_noref(text, v, output)),
         ReadAnswer::TooLong => c_answer::bare(1, 0),
         ReadAnswer::NotInGrammar => c_answer::bare(2, 0),
@@ -50,7 +61,9 @@ pub extern "C" fn saltwhistle_noref(text: &[u8], output: &mut [u8]) -> Answer
 pub extern "C" fn saltwhistle_width(text: &[u8]) -> Answer
     ensures { λ r. ⌜ Gauges (now (text .entry)) r ⌝ }
 {
-    match reader::read(text) {
+    let r = reader::reading_of(text);
+    let answer = r.answer;
+    match answer {
         ReadAnswer::Accepted(v) => c_answer::of_width(measure::width(text, v)),
         ReadAnswer::TooLong => c_answer::bare(1, 0),
         ReadAnswer::NotInGrammar => c_answer::bare(2, 0),

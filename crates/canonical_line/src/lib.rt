@@ -9,6 +9,8 @@ ghost use Prim.Native.Nat.{_+_, _≤_};
 ghost use lib.ListN.{length};
 ghost use Rattle.lent.specs.Put.{put};
 ghost use Rattle.grammar.specs.Texts.{allLetters};
+ghost use Rattle.na_edits.specs.Alphabet.{alphabets};
+ghost use Rattle.bodies.specs.Settled.{isSettled};
 ghost use Rattle.promise.specs.Outcome.{Outcome.given, writeOutcome, givenLength};
 ghost use Rattle.promise.specs.Reading.{Reads};
 ghost use Rattle.lines.specs.Lines.{lineEnd, Held.whole, Held.tooLong};
@@ -37,11 +39,11 @@ fn length_given(w: WriteAnswer) -> usize
 }
 
 // The shortest text of a line that reads as a record.
-fn put_text(line: &[u8], v: HgvsVariant, out: &mut [u8], at: usize) -> usize
-    requires { ⌜ Reads allLetters (now line) (given v) × (at + 4096 ≤ length (now out)) ⌝ }
+fn put_text(line: &[u8], v: HgvsVariant, settled: bool, out: &mut [u8], at: usize) -> usize
+    requires { ⌜ Reads allLetters (now line) (given v) × (settled ≡ isSettled allLetters alphabets (now line)) × (at + 4096 ≤ length (now out)) ⌝ }
     ensures { λ r. ⌜ (r ≡ at + length (lineAnswer (whole (now (line .entry))))) × (now (out .exit) ≡ put (now (out .entry)) at (lineAnswer (whole (now (line .entry))))) ⌝ }
 {
-    let w = writer::write(line, v, &mut out[at..]);
+    let w = rewriter::rewrite(line, v, settled, &mut out[at..]);
     at + length_given(w)
 }
 
@@ -53,8 +55,10 @@ fn put_answer(line: &[u8], long: bool, out: &mut [u8], at: usize) -> usize
     if long {
         return put_refusal(out, at, 1, 0);
     }
-    match reader::read(line) {
-        ReadAnswer::Accepted(v) => put_text(line, v, out, at),
+    let r = reader::reading_of(line);
+    let answer = r.answer;
+    match answer {
+        ReadAnswer::Accepted(v) => put_text(line, v, r.settled, out, at),
         ReadAnswer::TooLong => put_refusal(out, at, 1, 0),
         ReadAnswer::NotInGrammar => put_refusal(out, at, 2, 0),
         ReadAnswer::DoesNotFit(place) => put_refusal(out, at, 3, place as u32),

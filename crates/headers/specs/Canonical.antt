@@ -49,10 +49,13 @@ right-header (headerV a gene) t e =
     let w = whole-sound accessionLang a (m .0) (m .1 .0) in
     rw (← m .1 .1) (record { wf = (w .0, gene-right gene (c .0)); fits = tt; means = ap (λ (s : List ℕ). headerV s gene) (w .1) })
 
-pub covers-header : (u : Header) → WfHeader u → FitsHeader u → Covered headerLang canonHeader (meaningHeader u) u
+-- each header is the one that is written for its value
+pub header-found : (u : Header) → WfHeader u → canonHeader (meaningHeader u) ≡ some u
 unfolding canonHeader
-covers-header (header a gene) w f =
-    record { tree = header a gene; found = rw (right-gene gene (w .1), whole-complete accessionLang (header-end .accession-ends) a (w .0)); best = best-refl }
+header-found (header a gene) w = rw (right-gene gene (w .1), whole-complete accessionLang (header-end .accession-ends) a (w .0))
+
+pub covers-header : (u : Header) → WfHeader u → FitsHeader u → Covered headerLang canonHeader (meaningHeader u) u
+covers-header u w f = record { tree = u; found = header-found u w; best = best-refl }
 
 abbrev pub headerCanon : Canon headerLang
 headerCanon = record { Value = HeaderV; meaning = meaningHeader; Fits = FitsHeader; canon = canonHeader; right = right-header; covers = covers-header }

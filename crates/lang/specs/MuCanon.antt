@@ -1,6 +1,7 @@
 -- The canonical text of what is certain or uncertain.
 use mathlib.Core.Path.{_≡_, ap}
 use mathlib.Core.Option.{Option, some}
+use mathlib.Core.Bool.{Bool}
 use Rattle.texts.specs.Ascii.{ascii}
 use Rattle.texts.specs.Best.{best-append, best-behind, best-refl}
 use Rattle.grammar.specs.Shapes.{Mu, Mu.certain, Mu.uncertain, WfMu}
@@ -8,6 +9,11 @@ use Rattle.grammar.specs.Meaning.{mapMu}
 use Rattle.lang.specs.Lang.{Lang}
 use Rattle.lang.specs.MuLang.{Brackets, mu}
 use Rattle.lang.specs.Canon.{Canon, Right, Covered, mapO, map-some}
+
+-- of what stands in brackets or not
+abbrev pub settledMu : {A : Type 0} → (A → Bool) → Mu A → Bool
+settledMu settled (certain a) = settled a
+settledMu settled (uncertain a) = settled a
 
 module _ (L : Lang) (br : Brackets L) (C : Canon L) where
   abbrev pub canonMu : Mu (C .Value) → Option (Mu (L .Tree))

@@ -162,7 +162,7 @@ unstarred-right made z v t e =
     let r = based-right Start z v t e in
     record { wf = unstarred t (r .wf) (ap (λ (p : CdsPos). p .«cds_from») (r .means)); fit = r .fit; means = ap (λ (p : CdsPos). made (p .base) (p .offset)) (r .means) }
 
-unstarred-from : (m : Mark) → Unstarred m → fromOf m ≡ Start
+pub unstarred-from : (m : Mark) → Unstarred m → fromOf m ≡ Start
 unstarred-from bare w = refl
 unstarred-from plus w = refl
 unstarred-from minus w = refl

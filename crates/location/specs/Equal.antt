@@ -1,10 +1,13 @@
 -- Whether two positions are one.
-use mathlib.Core.Path.{_≡_, refl, ap}
+use mathlib.Core.Path.{_≡_, refl, sym, ap, _∙_}
 use mathlib.Core.Bool.{Bool, true, false, _&&_}
 use lib.Dec.{eqb}
 use lib.IntN.{ℤ, pos, negsuc}
 use borrow.Author.Tests.{eqb-true, eq-eqb}
-use Rattle.texts.specs.Tests.{and-true, true-and, clash}
+use mir.Syntax.{w32}
+use mir.Val.{SFits, toZ, ofZ}
+use mir.Facts.{toZ-ofZ}
+use Rattle.texts.specs.Tests.{and-true, true-and, clash, never}
 use Rattle.texts.specs.Words.{same, same-true, same-refl}
 use Rattle.record.specs.declared.variant.Kind.{Kind}
 use Rattle.record.specs.declared.variant.Kind.the-variants.{Cds, Genome, Mt, Tx, Prot, Rna}
@@ -122,3 +125,15 @@ eq-refl Mt (M.At v) = ℤ-refl v
 eq-refl Tx v = true-and (ℤ-refl (v .base)) (offset-refl (v .offset))
 eq-refl Prot (protPosV r v) = true-and (same-refl r) (ℤ-refl v)
 eq-refl Rna v = true-and (ℤ-refl (v .base)) (offset-refl (v .offset))
+
+-- ---- two numbers are one where the machine's are
+pub machine-equal : (v w : ℤ) → SFits w32 v → SFits w32 w → eqb (ofZ w32 v) (ofZ w32 w) ≡ eqℤ v w
+machine-equal v w f g = go (eqb (ofZ w32 v) (ofZ w32 w)) refl
+  where
+    go : (t : Bool) → eqb (ofZ w32 v) (ofZ w32 w) ≡ t → eqb (ofZ w32 v) (ofZ w32 w) ≡ eqℤ v w
+    go true e =
+        let m = eqb-true (ofZ w32 v) (ofZ w32 w) e in
+        let j : v ≡ w = sym (toZ-ofZ f) ∙ ap (toZ w32) m ∙ toZ-ofZ g in
+        e ∙ sym (ap (λ (z : ℤ). eqℤ v z) (sym j) ∙ ℤ-refl v)
+    go false e =
+        e ∙ sym (never (eqℤ v w) (λ q. clash (eq-eqb (ofZ w32 v) (ofZ w32 w) (ap (ofZ w32) (ℤ-true v w q))) e))

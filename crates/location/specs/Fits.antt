@@ -9,24 +9,24 @@ use Rattle.grammar.specs.Positions.{Offset.absent, Offset.ahead, Offset.back, B
 use Rattle.grammar.specs.Shapes.{Interval.one, Interval.two, Mu.certain, Mu.uncertain}
 use Rattle.grammar.specs.Bodies.{Ends, Location}
 use Rattle.grammar.specs.Numbers.{misfit, basedNumbers, genomicNumbers, positionNumbers, endsNumbers, muNumbers}
-use Rattle.grammar.specs.NumberLaws.{allFit, fit-elsewhere, misfit-both, both-misfit}
+use Rattle.grammar.specs.NumberLaws.{everyNumber, allFit, fit-elsewhere, misfit-both, both-misfit}
 use Rattle.location.specs.Canonical.{endsCanon, locationCanon}
 
 -- ---- a position fits wherever it stands
 module _ (i j : ℕ) where
   based-anywhere : (t : Based) → allFit (basedNumbers i t) ≡ allFit (basedNumbers j t)
-  unfolding allFit
+  unfolding everyNumber
   based-anywhere (based m ds absent) = refl
   based-anywhere (based m ds (ahead es)) = refl
   based-anywhere (based m ds (back es)) = refl
 
   genomic-anywhere : (t : Genomic) → allFit (genomicNumbers i t) ≡ allFit (genomicNumbers j t)
-  unfolding allFit
+  unfolding everyNumber
   genomic-anywhere (known ds) = refl
   genomic-anywhere unknown = refl
 
   position-anywhere : (k : Kind) (t : Position k) → allFit (positionNumbers k i t) ≡ allFit (positionNumbers k j t)
-  unfolding allFit
+  unfolding everyNumber
   position-anywhere Cds t = based-anywhere t
   position-anywhere Genome t = genomic-anywhere t
   position-anywhere Mt t = genomic-anywhere t

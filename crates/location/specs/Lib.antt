@@ -5,3 +5,4 @@ pub mod Equal
 pub mod Canon
 pub mod Canonical
 pub mod Fits
+pub mod Settled

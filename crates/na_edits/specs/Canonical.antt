@@ -86,7 +86,7 @@ module _ (na : ℕ → Bool) (al : Alphabet na) where
   some-letters : (b : List ℕ) → every na b && leb 1 (length b) ≡ true → Some na b
   some-letters b e = let h = and-true (every na b) (leb 1 (length b)) e in record { some = leb-true _ _ (h .1); all = h .0 }
 
-  letters-some : (b : List ℕ) → Some na b → every na b && leb 1 (length b) ≡ true
+  pub letters-some : (b : List ℕ) → Some na b → every na b && leb 1 (length b) ≡ true
   letters-some b w = rw (w .all) (le-leb 1 (length b) (w .some))
 
   pub right : (v : NaEditV) (t : NaEdit) → canonNaEdit na v ≡ some t → RightEdit v t

@@ -5,3 +5,4 @@ pub mod Sound
 pub mod Brackets
 pub mod Canon
 pub mod Canonical
+pub mod Settled

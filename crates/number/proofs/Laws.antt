@@ -1,38 +1,40 @@
 -- Laws behind the loops.
-use Prim.Native.Nat.{ℕ, _+_, _-_, _*_, _/_, _%_, _≤_, _<_, min}
+use Prim.Native.Nat.{ℕ, suc, _+_, _-_, _*_, _/_, _%_, _≤_, _<_, min}
 use Prim.Native.Char.{code}
 use mathlib.Core.Path.{_≡_, refl, sym, _∙_}
 use mathlib.Core.List.{List, [], _∷_}
-use mathlib.Core.Bool.{Bool, true, false}
+use mathlib.Core.Bool.{Bool, true, false, cond, _&&_}
 use native.Mathlib.Omega.{arith}
 use native.Mathlib.Numerals.{add-one}
-use lib.Dec.{leb}
+use lib.Dec.{eqb, leb}
 use lib.ListN.{length, set, getD, take}
 use lib.Seq.{take-suc}
-use borrow.Author.Tests.{leb-true, leb-false}
+use borrow.Author.Tests.{leb-true, leb-false, eqb-true, eq-eqb}
+use Rattle.texts.specs.Tests.{clash, never}
 use Rattle.texts.specs.Runs.{run, front}
+use Rattle.texts.specs.Words.{starts}
 use Rattle.alphabet.specs.Letters.{digit}
 use Rattle.lent.specs.Put.{put, put-byte, put-before}
 use Rattle.number.specs.Digits.{val, dec}
 use Rattle.number.specs.Values.{val-append, val-one}
 use Rattle.number.specs.Decimals.{dec-one, dec-more, dec-one-length, dec-more-length}
-use Rattle.number.specs.Reading.{most, tooLarge, numberOf, numberAt}
+use Rattle.number.specs.Reading.{most, zeroFirst, tooLarge, numberOf, numberAt}
 use Rattle.number.specs.Signs.{most-bound}
 use Rattle.number.specs.Numbers.{number-misfit}
 use Rattle.number.specs.declared.Sign.{Sign}
 
 -- ---- a value that is too large may count as another
-pub number-capped : (n : ℕ) (sign : Sign) (v : ℕ) → numberOf n sign (min v tooLarge) ≡ numberOf n sign v
-number-capped n sign v = go (leb v (most sign)) refl
+pub number-capped : (n : ℕ) (sign : Sign) (v : ℕ) (zero : Bool) → numberOf n sign (min v tooLarge) zero ≡ numberOf n sign v zero
+number-capped n sign v zero = go (leb v (most sign)) refl
   where
-    go : (t : Bool) → leb v (most sign) ≡ t → numberOf n sign (min v tooLarge) ≡ numberOf n sign v
+    go : (t : Bool) → leb v (most sign) ≡ t → numberOf n sign (min v tooLarge) zero ≡ numberOf n sign v zero
     go true e =
         let k : min v tooLarge ≡ v = omega (arith, most-bound sign v (leb-true _ _ e)) in
         rw k
     go false e =
         let h : most sign < v = leb-false _ _ e in
         let k : most sign < min v tooLarge = omega (arith, most-bound sign (most sign) (omega arith)) in
-        sym (number-misfit n sign (min v tooLarge) k) ∙ number-misfit n sign v h
+        sym (number-misfit n sign (min v tooLarge) zero k) ∙ number-misfit n sign v zero h
 
 -- ---- one digit more
 pub value-more : (s : List ℕ) (i v : ℕ) → i < length s → v ≡ min (val (take i s)) tooLarge
@@ -42,9 +44,34 @@ value-more s i v h e =
     omega arith
 
 -- ---- all digits
-pub value-all : (sign : Sign) (s : List ℕ) (i v : ℕ) → run digit s ≡ i → v ≡ min (val (take i s)) tooLarge → numberOf i sign v ≡ numberAt sign s
+-- ---- a zero in front
+pub zero-missing : (s : List ℕ) → length s ≡ 0 → false ≡ zeroFirst s
+unfolding starts
+zero-missing [] e = refl
+zero-missing (b ∷ s) e = absurd (omega arith)
+
+pub zero-there : (s : List ℕ) → (length s ≡ 0 → ⊥) → eqb (getD s 0 0) (code "0") ≡ zeroFirst s
+unfolding starts
+zero-there [] n = absurd (n refl)
+zero-there (b ∷ s) n = go (eqb b (code "0")) refl
+  where
+    go : (t : Bool) → eqb b (code "0") ≡ t → eqb b (code "0") ≡ eqb (code "0") b && true
+    go true e = rw (e, eq-eqb (code "0") b (sym (eqb-true b (code "0") e)))
+    go false e = rw (e, never (eqb (code "0") b) (λ h. clash (eq-eqb b (code "0") (sym (eqb-true (code "0") b h))) e))
+
+-- it is a digit: it is the first byte of the text exactly where it is the first of the digits
+zero-first : (s : List ℕ) → zeroFirst s ≡ zeroFirst (front digit s)
+unfolding starts front run digit
+zero-first [] = refl
+zero-first (b ∷ s) = go (digit b) refl
+  where
+    go : (t : Bool) → digit b ≡ t → eqb (code "0") b && true ≡ zeroFirst (take (cond t (suc (run digit s)) 0) (b ∷ s))
+    go true e = refl
+    go false e = rw (never (eqb (code "0") b) (λ h. clash (rw (← eqb-true (code "0") b h) refl) e))
+
+pub value-all : (sign : Sign) (s : List ℕ) (i v : ℕ) (zero : Bool) → run digit s ≡ i → v ≡ min (val (take i s)) tooLarge → zero ≡ zeroFirst s → numberOf i sign v zero ≡ numberAt sign s
 unfolding numberAt front
-value-all sign s i v r e = rw (r, e) (number-capped i sign (val (take i s)))
+value-all sign s i v zero r e z = rw (r, e, z ∙ zero-first s) (rw r (number-capped i sign (val (take i s)) (zeroFirst (take i s))))
 
 -- ---- a decimal text whose last digit is written first
 module _ (o : List ℕ) (at w i : ℕ) (inside : i < length o) (last : i + 1 ≡ at + length (dec w)) where

@@ -105,6 +105,10 @@ decimal-is {v} {s} d =
     let l : length s ≡ length (dec v) = omega (arith, decimal-shortest s (dec v) d (dec-some v) (dec-value v), dec-shortest (d .digits) (d .value)) in
     sym (dec-only (d .digits) (d .value) l)
 
+-- digits that begin with a zero only where they are `0`
+pub dec-is : {s : List ℕ} → Some digit s → (getD s 0 0 ≡ code "0" → s ≡ code "0" ∷ []) → dec (val s) ≡ s
+dec-is ds h = decimal-is (record { value = refl; digits = ds; plain = h })
+
 pub dec-one : (v : ℕ) → v < 10 → dec v ≡ (code "0" + v) ∷ []
 dec-one v h = decimal-is (one-decimal v h)
 

@@ -5,3 +5,4 @@ pub mod Decimals
 pub mod Signs
 pub mod Numbers
 pub mod Written
+pub mod Plain

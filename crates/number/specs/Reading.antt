@@ -1,9 +1,12 @@
 -- What the digits at the front of a text are, with the sign that stood before them.
 use Prim.Native.Nat.{ℕ}
 use mathlib.Core.List.{List}
-use mathlib.Core.Bool.{Bool, cond}
-use lib.Dec.{leb}
+use mathlib.Core.Bool.{Bool, true, false, cond, _&&_}
+use lib.Dec.{eqb, leb}
 use lib.IntN.{ℤ, pos, negℤ}
+use lib.ListN.{length}
+use Rattle.texts.specs.Ascii.{ascii}
+use Rattle.texts.specs.Words.{starts}
 use Rattle.texts.specs.Runs.{run, front}
 use Rattle.alphabet.specs.Letters.{digit}
 use Rattle.number.specs.Digits.{val}
@@ -30,12 +33,28 @@ fits sign v = leb v (most sign)
 unfoldable pub saturated : Sign → ℕ → ℤ
 saturated sign v = cond (fits sign v) (signed sign v) (pos 0)
 
+-- whether 0 is plainly spelled with the sign
+abbrev pub mayBeZero : Sign → Bool
+mayBeZero Plain = true
+mayBeZero Minus = false
+mayBeZero Negated = true
+
+-- whether n digits are plainly spelled, by whether the first is a zero: only where it is the one digit 0, with no minus before it
+abbrev pub plainly : ℕ → Sign → Bool → Bool
+plainly n sign zero = cond zero (eqb n 1 && mayBeZero sign) true
+
+abbrev pub zeroFirst : List ℕ → Bool
+zeroFirst ds = starts (ascii "0") ds
+
+abbrev pub isPlain : Sign → List ℕ → Bool
+isPlain sign ds = plainly (length ds) sign (zeroFirst ds)
+
 -- n digits of the value v
-unfoldable pub numberOf : ℕ → Sign → ℕ → Number
-numberOf n sign v = record { len = n; value = saturated sign v; fits = fits sign v }
+unfoldable pub numberOf : ℕ → Sign → ℕ → Bool → Number
+numberOf n sign v zero = record { len = n; value = saturated sign v; fits = fits sign v; plain = plainly n sign zero }
 
 unfoldable pub numberAt : Sign → List ℕ → Number
-numberAt sign s = numberOf (run digit s) sign (val (front digit s))
+numberAt sign s = numberOf (run digit s) sign (val (front digit s)) (zeroFirst (front digit s))
 
 -- a value with which no number fits: the program counts no further
 abbrev pub tooLarge : ℕ

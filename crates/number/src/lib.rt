@@ -5,9 +5,11 @@ ghost use Prim.Native.Nat.{_+_, _≤_, min};
 ghost use lib.IntN.{pos, negℤ, natAbs};
 ghost use lib.ListN.{length};
 ghost use Rattle.alphabet.specs.Cells.{IsTable};
+ghost use Rattle.texts.specs.Ascii.{ascii};
+ghost use Rattle.texts.specs.Words.{starts};
 ghost use Rattle.lent.specs.Put.{put};
 ghost use Rattle.number.specs.Digits.{dec};
-ghost use Rattle.number.specs.Reading.{signed, most, tooLarge, numberOf, numberAt};
+ghost use Rattle.number.specs.Reading.{signed, most, mayBeZero, plainly, tooLarge, numberOf, numberAt};
 
 // What stands before the digits: no sign or a plus, a minus, or what makes their negative of an unsigned number.
 pub enum Sign {
@@ -16,11 +18,12 @@ pub enum Sign {
     Negated,
 }
 
-// A number that was read: how many digits it has, its value where it fits and else 0, and whether it fits.
+// A number that was read: how many digits it has, its value where it fits and else 0, whether it fits, and whether it is plainly spelled.
 pub struct Number {
     pub len: usize,
     pub value: i32,
     pub fits: bool,
+    pub plain: bool,
 }
 
 // A value with which no number fits: larger ones count as this one.
@@ -56,22 +59,58 @@ fn with_sign(sign: Sign, v: u64) -> i32
     }
 }
 
-fn number_of(len: usize, sign: Sign, v: u64) -> Number
-    ensures { λ r. ⌜ r ≡ numberOf len sign v ⌝ }
+// Whether 0 is plainly spelled with the sign.
+fn may_be_zero(sign: Sign) -> bool
+    ensures { λ r. ⌜ r ≡ mayBeZero sign ⌝ }
 {
+    match sign {
+        Sign::Plain => true,
+        Sign::Minus => false,
+        Sign::Negated => true,
+    }
+}
+
+// Whether `len` digits are plainly spelled, by whether the first is a zero.
+fn is_plain(len: usize, sign: Sign, zero: bool) -> bool
+    ensures { λ r. ⌜ r ≡ plainly len sign zero ⌝ }
+{
+    if !zero {
+        return true;
+    }
+    if len != 1 {
+        return false;
+    }
+    may_be_zero(sign)
+}
+
+fn number_of(len: usize, sign: Sign, v: u64, zero: bool) -> Number
+    ensures { λ r. ⌜ r ≡ numberOf len sign v zero ⌝ }
+{
+    let plain = is_plain(len, sign, zero);
     if v <= limit(sign) {
         Number {
             len,
             value: with_sign(sign, v),
             fits: true,
+            plain,
         }
     } else {
         Number {
             len,
             value: 0,
             fits: false,
+            plain,
         }
     }
+}
+
+fn begins_with_zero(s: &[u8]) -> bool
+    ensures { λ r. ⌜ r ≡ starts (ascii "0") (now (s .entry)) ⌝ }
+{
+    if s.len() == 0 {
+        return false;
+    }
+    s[0] == b'0'
 }
 
 fn capped(v: u64) -> u64
@@ -85,17 +124,18 @@ pub fn number_at(table: &[u8; 256], s: &[u8], sign: Sign) -> Number
     requires { ⌜ IsTable (now table) ⌝ }
     ensures { λ r. ⌜ r ≡ numberAt sign (now (s .entry)) ⌝ }
 {
+    let zero = begins_with_zero(s);
     let mut v: u64 = 0;
     let mut i = 0;
     while i < s.len() {
         let b = s[i];
         if !alphabet::is_in(table, Class::Digit, b) {
-            return number_of(i, sign, v);
+            return number_of(i, sign, v, zero);
         }
         v = capped(10 * v + (b - b'0') as u64);
         i += 1;
     }
-    number_of(i, sign, v)
+    number_of(i, sign, v, zero)
 }
 
 // A number without its sign.

@@ -58,7 +58,7 @@ terminal-right w t h = go (same w (ascii "Ter")) (same w (ascii "X")) (same w (a
     go false false true e f g = is star (rw (e, f, g, canonTerminal) at h) g
     go false false false e f g = absurd (none-some (rw (e, f, g, canonTerminal) at h))
 
-terminal-found : (t : Terminal) → canonTerminal (printTerminal t) ≡ some t
+pub terminal-found : (t : Terminal) → canonTerminal (printTerminal t) ≡ some t
 unfolding canonTerminal same
 terminal-found ter = refl
 terminal-found x = refl

@@ -98,11 +98,11 @@ abbrev CoveredEdit : ProteinEdit → Type 0
 CoveredEdit t = Covered proteinEditLang canonProteinEdit (meaningProteinEdit t) t
 
 -- the value of a tree with its end
-fs-canon : (r : Option (List ℕ)) (e : Option Stop) → canonProteinEdit (meaningFs r e) ≡ cond (isOptional r) (mapO (fs r) (fsCanon e)) none
+pub fs-canon : (r : Option (List ℕ)) (e : Option Stop) → canonProteinEdit (meaningFs r e) ≡ cond (isOptional r) (mapO (fs r) (fsCanon e)) none
 fs-canon r none = refl
 fs-canon r (some (stop t n)) = refl
 
-ext-canon : (r : Option (List ℕ)) (e : ExtEnd) → canonProteinEdit (meaningExt r e) ≡ cond (isOptional r) (mapO (ext r) (extCanon e)) none
+pub ext-canon : (r : Option (List ℕ)) (e : ExtEnd) → canonProteinEdit (meaningExt r e) ≡ cond (isOptional r) (mapO (ext r) (extCanon e)) none
 ext-canon r nothing = refl
 ext-canon r (later (stop t n)) = refl
 ext-canon r (earlier q ds) = refl

@@ -7,3 +7,4 @@ pub mod Instance
 pub mod Canon
 pub mod CanonEnds
 pub mod Canonical
+pub mod Settled

@@ -1,31 +1,61 @@
 -- From the answers for positions to the answer for an interval.
 use Prim.Native.Nat.{ℕ, _+_, _-_, _≤_}
-use mathlib.Core.Path.{_≡_, sym, ap, _∙_}
+use mathlib.Core.Path.{_≡_, refl, sym, ap, _∙_}
 use mathlib.Core.List.{List, _++_}
 use mathlib.Core.Option.{none, some}
-use mathlib.Core.Bool.{true, false}
+use mathlib.Core.Bool.{true, false, not, _&&_}
 use native.Mathlib.Omega.{arith}
+use mir.Syntax.{w32}
+use mir.Val.{SFits, ofZ}
+use lib.Dec.{eqb}
 use lib.ListN.{length, take, drop, length-append, length-drop}
 use Rattle.texts.specs.Ascii.{ascii}
 use Rattle.texts.specs.Slices.{tail-part, tail-at, tail-beyond}
 use Rattle.texts.specs.Words.{starts, starts-length}
+use Rattle.number.specs.declared.Sign.the-variants.{Plain}
+use Rattle.number.specs.Digits.{val}
+use Rattle.number.specs.Signs.{saturated-fits}
 use Rattle.record.specs.declared.variant.Kind.{Kind}
+use Rattle.record.specs.declared.variant.Kind.the-variants.{Cds, Genome, Mt, Tx, Prot, Rna}
 use Rattle.grammar.specs.Positions as Tree
-use Rattle.grammar.specs.Positions.{printPosition}
+use Rattle.grammar.specs.Positions.{Based.based, Genomic.known, Genomic.unknown, Residual.residual, printPosition}
 use Rattle.grammar.specs.Shapes.{Interval.one, Interval.two, Mu.certain}
+use Rattle.grammar.specs.Meaning.{signOf}
 use Rattle.grammar.specs.Numbers.{positionNumbers}
 use Rattle.lang.specs.Lang.{within}
 use Rattle.lang.specs.IntervalLang.{parseInterval}
 use Rattle.lang.specs.MuReading as Reading
 use Rattle.scan.specs.declared.Faults.{Faults}
-use Rattle.scan.specs.Faults.{faults, first, faults-append}
+use Rattle.scan.specs.Faults.{faults, first, settledIf, faults-append, settled-if}
 use Rattle.location.specs.Parse.{parsePosition}
 use Rattle.location.specs.Languages.{posLang, endsLang}
+use Rattle.location.specs.Equal.{eqℤ, machine-equal}
+use Rattle.location.specs.Settled.{settledPosition, numberIn}
 use Rattle.read_location.specs.declared.Position.{Position}
 use Rattle.read_location.specs.declared.PositionRead.the-variants as PR
 use Rattle.read_location.specs.declared.LocationRead.the-variants.{Nothing, Found}
 use Rattle.read_location.specs.Told.{PositionTold, position-unread}
 use Rattle.read_location.specs.Answer.{positionOf, positionAnswer, intervalOf, intervalAnswer}
+
+number-in : (k : Kind) (at : ℕ) (t : Tree.Position k) → positionOf k at t .number ≡ numberIn k t
+number-in Cds at (based m ds o) = refl
+number-in Genome at (known ds) = refl
+number-in Genome at unknown = refl
+number-in Mt at (known ds) = refl
+number-in Mt at unknown = refl
+number-in Tx at (based m ds o) = refl
+number-in Prot at (residual r ds) = refl
+number-in Rna at (based m ds o) = refl
+
+number-fits : (k : Kind) (t : Tree.Position k) → SFits w32 (numberIn k t)
+number-fits Cds (based m ds o) = saturated-fits (signOf m) (val ds)
+number-fits Genome (known ds) = saturated-fits Plain (val ds)
+number-fits Genome unknown = record { sfits = omega arith }
+number-fits Mt (known ds) = saturated-fits Plain (val ds)
+number-fits Mt unknown = record { sfits = omega arith }
+number-fits Tx (based m ds o) = saturated-fits (signOf m) (val ds)
+number-fits Prot (residual r ds) = saturated-fits Plain (val ds)
+number-fits Rna (based m ds o) = saturated-fits (signOf m) (val ds)
 
 module _ (k : Kind) (at : ℕ) (s : List ℕ) where
   pub interval-none : PR.Nothing ≡ positionAnswer k at (parsePosition k s) → Nothing ≡ intervalAnswer k at (endsLang k .parse s)
@@ -35,7 +65,7 @@ module _ (k : Kind) (at : ℕ) (s : List ℕ) where
   -- where t stands first
   module _ (t : Tree.Position k) (q : parsePosition k s ≡ some t) where
     one-is : starts (ascii "_") (drop (length (printPosition k t)) s) ≡ false
-        → Found (intervalOf k true at (one t)) (length (printPosition k t)) (faults (positionNumbers k at t)) ≡ intervalAnswer k at (endsLang k .parse s)
+        → Found (intervalOf k true at (one t)) (length (printPosition k t)) (faults (positionNumbers k at t) (settledPosition k t)) ≡ intervalAnswer k at (endsLang k .parse s)
     unfolding parseInterval intervalAnswer
     one-is j = rw (q, j)
 
@@ -45,11 +75,13 @@ module _ (k : Kind) (at : ℕ) (s : List ℕ) where
       half-is h = rw (q, j, h)
 
       two-is : (u : Tree.Position k) → parsePosition k (drop 1 (drop (length (printPosition k t)) s)) ≡ some u
-          → Found (intervalOf k true at (two t u)) (length (printPosition k t) + 1 + length (printPosition k u)) (first (faults (positionNumbers k at t)) (faults (positionNumbers k (at + length (printPosition k t) + 1) u))) ≡ intervalAnswer k at (endsLang k .parse s)
+          → Found (intervalOf k true at (two t u)) (length (printPosition k t) + 1 + length (printPosition k u)) (settledIf (not (eqℤ (numberIn k t) (numberIn k u))) (first (faults (positionNumbers k at t) (settledPosition k t)) (faults (positionNumbers k (at + length (printPosition k t) + 1) u) (settledPosition k u)))) ≡ intervalAnswer k at (endsLang k .parse s)
       unfolding parseInterval intervalAnswer
       two-is u h =
           let l : length (printPosition k t) + 1 + length (printPosition k u) ≡ length (printPosition k t ++ (ascii "_" ++ printPosition k u)) = simp length-append (omega arith) in
-          rw (q, j, h, l, faults-append (positionNumbers k at t) (positionNumbers k (at + length (printPosition k t) + 1) u))
+          let ms = positionNumbers k at t in
+          let ns = positionNumbers k (at + length (printPosition k t) + 1) u in
+          rw (q, j, h, l, ← faults-append ms ns (settledPosition k t) (settledPosition k u), settled-if (not (eqℤ (numberIn k t) (numberIn k u))) (ms ++ ns) (settledPosition k t && settledPosition k u))
 
 -- what was read first
 module _ {k : Kind} {at : ℕ} {s : List ℕ} {p : Position} {n : ℕ} {f : Faults} (a : PositionTold k at s p n f) where
@@ -83,9 +115,12 @@ module _ {k : Kind} {at : ℕ} {s : List ℕ} {p : Position} {n : ℕ} {f : Faul
           let w : length y ≡ length s - (n + 1) = rw (tail-part (n + 1) s) (length-drop (n + 1) s) in
           omega (arith, b .long, within (posLang k) y (b .tree) (b .parsed), join-le)
 
-      pub interval-two : (x : Faults) → x ≡ first f g → Found (record { certain = true; start = p; end = u }) (n + 1 + m) x ≡ intervalAnswer k at (endsLang k .parse s)
-      interval-two x ex =
+      pub interval-two : (x y : Faults) → x ≡ first f g → y ≡ settledIf (not (eqb (ofZ w32 (p .number)) (ofZ w32 (u .number)))) x → Found (record { certain = true; start = p; end = u }) (n + 1 + m) y ≡ intervalAnswer k at (endsLang k .parse s)
+      interval-two x y ex ey =
+          let number : p .number ≡ numberIn k (a .tree) = ap (λ (v : Position). v .number) (a .means) ∙ number-in k at (a .tree) in
+          let other : u .number ≡ numberIn k (b .tree) = ap (λ (v : Position). v .number) (b .means) ∙ number-in k (at + (n + 1)) (b .tree) in
+          let test : eqb (ofZ w32 (p .number)) (ofZ w32 (u .number)) ≡ eqℤ (numberIn k (a .tree)) (numberIn k (b .tree)) = rw (number, other) (machine-equal _ _ (number-fits k (a .tree)) (number-fits k (b .tree))) in
           let place : at + (n + 1) ≡ at + length (printPosition k (a .tree)) + 1 = omega (arith, a .long) in
           let means : u ≡ positionOf k (at + length (printPosition k (a .tree)) + 1) (b .tree) = b .means ∙ ap (λ (i : ℕ). positionOf k i (b .tree)) place in
-          let wrong : g ≡ faults (positionNumbers k (at + length (printPosition k (a .tree)) + 1) (b .tree)) = b .wrong ∙ ap (λ (i : ℕ). faults (positionNumbers k i (b .tree))) place in
+          let wrong : g ≡ faults (positionNumbers k (at + length (printPosition k (a .tree)) + 1) (b .tree)) (settledPosition k (b .tree)) = b .wrong ∙ ap (λ (i : ℕ). faults (positionNumbers k i (b .tree)) (settledPosition k (b .tree))) place in
           cc (two-is k at s (a .tree) (a .parsed) joined (b .tree) (ap (parsePosition k) (sym next-is) ∙ b .parsed))

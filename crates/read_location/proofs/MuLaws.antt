@@ -19,6 +19,7 @@ use Rattle.lang.specs.MuLang.{parseMu}
 use Rattle.lang.specs.MuReading as Reading
 use Rattle.scan.specs.declared.Faults.{Faults}
 use Rattle.scan.specs.Faults.{faults}
+use Rattle.location.specs.Settled.{settledEnds, settledLocation}
 use Rattle.location.specs.Languages.{endsLang, locationLang}
 use Rattle.read_location.specs.declared.Location.{Location}
 use Rattle.read_location.specs.declared.LocationRead.{LocationRead}
@@ -39,7 +40,7 @@ module _ (k : Kind) (at : ℕ) (s : List ℕ) (a : ℕ) (ea : a ≡ opening s) w
   unfolding locationAnswer
   nothing e = rw e
 
-  found : (t : Body.Location k) (l : Location) (n : ℕ) (f : Faults) → parseMu (endsLang k) s ≡ some t → l ≡ locationOf k at t → n ≡ length (printLocation k t) → f ≡ faults (muNumbers (endsNumbers k) at t) → Answered (Found l n f)
+  found : (t : Body.Location k) (l : Location) (n : ℕ) (f : Faults) → parseMu (endsLang k) s ≡ some t → l ≡ locationOf k at t → n ≡ length (printLocation k t) → f ≡ faults (muNumbers (endsNumbers k) at t) (settledLocation k t) → Answered (Found l n f)
   unfolding locationAnswer
   found t l n f e el en ef = rw (e, el, en, ef)
 
@@ -59,7 +60,7 @@ module _ (k : Kind) (at : ℕ) (s : List ℕ) (a : ℕ) (ea : a ≡ opening s) w
         found (certain (inner .tree)) l n f (Reading.mu-bare (endsLang k) s a ea (inner .tree) n (inner .parsed) (inner .long) z)
         (inner .means ∙ ap (λ (i : ℕ). intervalOf k true i (inner .tree)) place)
         (inner .long)
-        (inner .wrong ∙ ap (λ (i : ℕ). faults (endsNumbers k i (inner .tree))) place)
+        (inner .wrong ∙ ap (λ (i : ℕ). faults (endsNumbers k i (inner .tree)) (settledEnds k (inner .tree))) place)
 
     pub mu-room : starts (ascii ")") (tail (a + n) s) ≡ true → a + n + 1 ≤ length s
     mu-room q = Reading.mu-room (endsLang k) s a ea (inner .tree) n (inner .parsed) (inner .long) (rw (tail-part (a + n) s) at q)
@@ -72,7 +73,7 @@ module _ (k : Kind) (at : ℕ) (s : List ℕ) (a : ℕ) (ea : a ≡ opening s) w
           (Reading.mu-shut (endsLang k) s a ea (inner .tree) n (inner .parsed) (inner .long) z (rw (tail-part (a + n) s) at q))
           (eu ∙ ap uncertainOf (inner .means) ∙ uncertain-is k (at + a) (inner .tree) ∙ ap (λ (i : ℕ). intervalOf k false i (inner .tree)) place)
           (Reading.mu-length (endsLang k) s a ea (inner .tree) n (inner .parsed) (inner .long) z)
-          (inner .wrong ∙ ap (λ (i : ℕ). faults (endsNumbers k i (inner .tree))) place)
+          (inner .wrong ∙ ap (λ (i : ℕ). faults (endsNumbers k i (inner .tree)) (settledEnds k (inner .tree))) place)
 
       pub mu-left : starts (ascii ")") (tail (a + n) s) ≡ false → Answered Nothing
       mu-left q = nothing (Reading.mu-left (endsLang k) s a ea (inner .tree) n (inner .parsed) (inner .long) z (rw (tail-part (a + n) s) at q))

@@ -34,9 +34,10 @@ use Rattle.grammar.specs.Records.{span}
 use Rattle.grammar.specs.Numbers.{Numeral.numeral, offsetNumbers}
 use Rattle.scan.specs.declared.Faults.{Faults}
 use Rattle.scan.specs.Reading.{number-run, number-len, number-le, number-value, number-faults}
-use Rattle.scan.specs.Faults.{faults, none as noFault, unfitUnless, first, faults-nil, faults-append}
+use Rattle.scan.specs.Faults.{faults, none as noFault, ofNumber, first, settledIf, faults-nil, faults-append, settled-only}
 use Rattle.location.specs.Parse.{onDigits, parseMark, parseOffset, parseBased, parseGenomic, parseResidual}
 use Rattle.location.specs.Sound.{digits-none, digits-some, mark-split, offset-sound}
+use Rattle.location.specs.Settled.{plainMark}
 use Rattle.read_location.specs.declared.Position.{Position}
 use Rattle.read_location.specs.declared.PositionRead.the-variants.{Nothing, Found}
 use Rattle.read_location.specs.declared.Mark.{Mark}
@@ -76,7 +77,7 @@ module _ (at : ℕ) (sign : Sign) (s : List ℕ) (n : Number) (e : n ≡ numberA
   unfolding offsetBehind
   behind-none z = rw (eq-eqb (run digit s) 0 (sym (number-run sign s n e) ∙ z))
 
-  pub behind-some : (n .len ≡ 0 → ⊥) → (f : Faults) → f ≡ unfitUnless (n .fits) (at + 1)
+  pub behind-some : (n .len ≡ 0 → ⊥) → (f : Faults) → f ≡ ofNumber (n .fits) (n .plain) (at + 1)
       → _≡_ {A = OffsetRead} (record { offset = By (toZ w32 (ofZ w32 (n .value))); len = 1 + n .len; faults = f }) (offsetBehind at sign s)
   unfolding offsetBehind
   behind-some z f ef =
@@ -85,12 +86,12 @@ module _ (at : ℕ) (sign : Sign) (s : List ℕ) (n : Number) (e : n ≡ numberA
 
 -- what stands behind the sign, as an offset
 behind-by : (at : ℕ) (sign : Sign) (by : List ℕ → Offset) (s : List ℕ)
-    → ((ds : List ℕ) → offsetAnswer at (by ds) ≡ record { offset = By (number sign ds); len = suc (length ds); faults = faults (numeral (at + 1) sign ds ∷ []) })
+    → ((ds : List ℕ) → offsetAnswer at (by ds) ≡ record { offset = By (number sign ds); len = suc (length ds); faults = faults (numeral (at + 1) sign ds ∷ []) true })
     → offsetBehind at sign s ≡ offsetAnswer at (onDigits absent by s)
 unfolding offsetBehind onDigits
 behind-by at sign by s is = go (eqb (run digit s) 0)
   where
-    go : (t : Bool) → cond t (offsetAnswer at absent) (record { offset = By (number sign (front digit s)); len = 1 + run digit s; faults = faults (numeral (at + 1) sign (front digit s) ∷ []) }) ≡ offsetAnswer at (cond t absent (by (front digit s)))
+    go : (t : Bool) → cond t (offsetAnswer at absent) (record { offset = By (number sign (front digit s)); len = 1 + run digit s; faults = faults (numeral (at + 1) sign (front digit s) ∷ []) true }) ≡ offsetAnswer at (cond t absent (by (front digit s)))
     go true = refl
     go false = let l : 1 + run digit s ≡ suc (length (front digit s)) = omega (arith, front-length digit s) in rw (is (front digit s), l)
 
@@ -113,12 +114,14 @@ module _ (at : ℕ) (s : List ℕ) where
 
 -- ---- c, n, r
 based-found : (at : ℕ) (m : Tree.Mark) (ds : List ℕ) (o : Offset)
-    → Found (basedOf (based m ds o)) (length (printMark m) + length ds + length (printOffset o)) (first (faults (numeral (at + length (printMark m)) (signOf m) ds ∷ [])) (faults (offsetNumbers (at + length (printMark m) + length ds) o)))
+    → Found (basedOf (based m ds o)) (length (printMark m) + length ds + length (printOffset o)) (settledIf (plainMark m) (first (faults (numeral (at + length (printMark m)) (signOf m) ds ∷ []) true) (faults (offsetNumbers (at + length (printMark m) + length ds) o) true)))
     ≡ positionAnswer Cds at (some (based m ds o))
 unfolding foundAs
 based-found at m ds o =
     let l : length (printMark m) + length ds + length (printOffset o) ≡ length (printMark m ++ (ds ++ printOffset o)) = simp length-append (omega arith) in
-    rw (l, ← faults-append (numeral (at + length (printMark m)) (signOf m) ds ∷ []) (offsetNumbers (at + length (printMark m) + length ds) o))
+    let ms = numeral (at + length (printMark m)) (signOf m) ds ∷ [] in
+    let ns = offsetNumbers (at + length (printMark m) + length ds) o in
+    rw (l, ← faults-append ms ns true true, settled-only (plainMark m) (ms ++ ns))
 
 -- the mark m, the number n behind it, and the offset o behind that
 module _ (at : ℕ) (s : List ℕ) (m : Mark) (em : m ≡ markOf (parseMark s)) where
@@ -157,16 +160,16 @@ module _ (at : ℕ) (s : List ℕ) (m : Mark) (em : m ≡ markOf (parseMark s)) 
           let q : at + (k + run digit (drop k s)) ≡ at + k + length (front digit (drop k s)) = omega (arith, front-length digit (drop k s)) in
           eo ∙ rw (tail-part (m .len + n .len) s, em, l, q, drop-drop (run digit (drop k s)) k s)
 
-      pub based-some : (aa : Span) (f g : Faults) → aa ≡ span 0 0 → f ≡ unfitUnless (n .fits) (at + m .len) → g ≡ first f (o .faults)
-          → Found (record { aa = aa; number = toZ w32 (ofZ w32 (n .value)); unknown = false; «cds_from» = m .«cds_from»; offset = o .offset }) (m .len + n .len + o .len) g ≡ positionAnswer Cds at (parseBased s)
+      pub based-some : (aa : Span) (f g x : Faults) → aa ≡ span 0 0 → f ≡ ofNumber (n .fits) (n .plain) (at + m .len) → g ≡ first f (o .faults) → x ≡ settledIf (m .plain) g
+          → Found (record { aa = aa; number = toZ w32 (ofZ w32 (n .value)); unknown = false; «cds_from» = m .«cds_from»; offset = o .offset }) (m .len + n .len + o .len) x ≡ positionAnswer Cds at (parseBased s)
       unfolding y parseBased offsetAnswer
-      based-some aa f g ea ef eg =
+      based-some aa f g x ea ef eg ex =
           let k = length (printMark (parseMark s)) in
           let ds = front digit y in
           let v : toZ w32 (ofZ w32 (n .value)) ≡ number (signOf (parseMark s)) ds = number-value (signOf (parseMark s)) y n read in
           let l : n .len ≡ length ds = number-len (signOf (parseMark s)) y n read in
-          let h : f ≡ faults (numeral (at + k) (signOf (parseMark s)) ds ∷ []) = ef ∙ rw em (number-faults (signOf (parseMark s)) y n read (at + k)) in
-          rw (digits-some none (λ ds. some (based (parseMark s) ds (parseOffset (behind digit y)))) y (λ q. z (number-run (signOf (parseMark s)) y n read ∙ q)), eg, h, ea, v, l, offset-read, em)
+          let h : f ≡ faults (numeral (at + k) (signOf (parseMark s)) ds ∷ []) true = ef ∙ rw em (number-faults (signOf (parseMark s)) y n read (at + k)) in
+          rw (digits-some none (λ ds. some (based (parseMark s) ds (parseOffset (behind digit y)))) y (λ q. z (number-run (signOf (parseMark s)) y n read ∙ q)), ex, eg, h, ea, v, l, offset-read, em)
           (based-found at (parseMark s) ds (parseOffset (behind digit y)))
 
 module _ (k : Kind) (at : ℕ) (s : List ℕ) where
@@ -190,7 +193,7 @@ module _ (at : ℕ) (s : List ℕ) (n : Number) (en : n ≡ numberAt Plain s) wh
   unfolding parseGenomic foundAs
   genomic-none z q = rw (digits-none (cond (starts (ascii "?") s) (some unknown) none) (λ ds. some (known ds)) s (sym (number-run Plain s n en) ∙ z), q)
 
-  pub genomic-some : (n .len ≡ 0 → ⊥) → (aa : Span) (p : Position) (f : Faults) → aa ≡ span 0 0 → p ≡ plainOf aa (toZ w32 (ofZ w32 (n .value))) false → f ≡ unfitUnless (n .fits) at
+  pub genomic-some : (n .len ≡ 0 → ⊥) → (aa : Span) (p : Position) (f : Faults) → aa ≡ span 0 0 → p ≡ plainOf aa (toZ w32 (ofZ w32 (n .value))) false → f ≡ ofNumber (n .fits) (n .plain) at
       → Found p (n .len) f ≡ positionAnswer Genome at (parseGenomic s)
   unfolding parseGenomic foundAs
   genomic-some z aa p f ea ep ef =
@@ -216,7 +219,7 @@ module _ (at : ℕ) (s : List ℕ) (k : ℕ) (ek : k ≡ residueLen s) where
     unfolding parseResidual foundAs
     residual-bare zk z = rw (← ek, ne-eqb k 0 zk, digits-none none (λ ds. some (residual (take k s) ds)) (drop k s) (sym (number-run Plain (drop k s) n behind-residue) ∙ z))
 
-    pub residual-some : (k ≡ 0 → ⊥) → (n .len ≡ 0 → ⊥) → (aa : Span) (p : Position) (f : Faults) → aa ≡ span at k → p ≡ plainOf aa (toZ w32 (ofZ w32 (n .value))) false → f ≡ unfitUnless (n .fits) (at + k)
+    pub residual-some : (k ≡ 0 → ⊥) → (n .len ≡ 0 → ⊥) → (aa : Span) (p : Position) (f : Faults) → aa ≡ span at k → p ≡ plainOf aa (toZ w32 (ofZ w32 (n .value))) false → f ≡ ofNumber (n .fits) (n .plain) (at + k)
         → Found p (k + n .len) f ≡ positionAnswer Prot at (parseResidual s)
     unfolding parseResidual foundAs
     residual-some zk z aa p f ea ep ef =

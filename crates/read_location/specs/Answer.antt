@@ -1,4 +1,4 @@
--- What the routines give for what was found: the position or location with its spans, its length, and the faults of its numbers.
+-- What the routines give for what was found: the position or location with its spans, its length, and its faults.
 use Prim.Native.Nat.{ℕ, _+_}
 use mathlib.Core.List.{List, _∷_, []}
 use mathlib.Core.Option.{Option, none, some}
@@ -24,6 +24,7 @@ use Rattle.grammar.specs.Meaning.{number, signOf, fromOf, offsetOf}
 use Rattle.grammar.specs.Records.{span, spanOf}
 use Rattle.grammar.specs.Numbers.{Numeral, Numeral.numeral, offsetNumbers, positionNumbers, endsNumbers, muNumbers}
 use Rattle.scan.specs.Faults.{faults}
+use Rattle.location.specs.Settled.{plainMark, settledPosition, settledEnds, settledLocation}
 use Rattle.read_location.specs.declared.Position.{Position}
 use Rattle.read_location.specs.declared.PositionRead.{PositionRead}
 use Rattle.read_location.specs.declared.PositionRead.the-variants as PR
@@ -55,26 +56,26 @@ positionOf Tx at = basedOf
 positionOf Prot at = residualOf at
 positionOf Rna at = basedOf
 
--- what is given for a tree: what it reads as, the length of its text, and the faults of its numbers
-unfoldable pub foundAs : {A : Type 0} → (A → Position) → (A → List ℕ) → (A → List Numeral) → Option A → PositionRead
-foundAs read print numbers none = PR.Nothing
-foundAs read print numbers (some t) = PR.Found (read t) (length (print t)) (faults (numbers t))
+-- what is given for a tree: what it reads as, the length of its text, and its faults
+unfoldable pub foundAs : {A : Type 0} → (A → Position) → (A → List ℕ) → (A → List Numeral) → (A → Bool) → Option A → PositionRead
+foundAs read print numbers settled none = PR.Nothing
+foundAs read print numbers settled (some t) = PR.Found (read t) (length (print t)) (faults (numbers t) (settled t))
 
 abbrev pub positionAnswer : (k : Kind) → ℕ → Option (G.Position k) → PositionRead
-positionAnswer k at = foundAs (positionOf k at) (printPosition k) (positionNumbers k at)
+positionAnswer k at = foundAs (positionOf k at) (printPosition k) (positionNumbers k at) (settledPosition k)
 
 -- ---- the parts of a base
 abbrev pub markOf : G.Mark → Mark
-markOf m = record { len = length (printMark m); sign = signOf m; «cds_from» = fromOf m }
+markOf m = record { len = length (printMark m); sign = signOf m; «cds_from» = fromOf m; plain = plainMark m }
 
 unfoldable pub offsetAnswer : ℕ → G.Offset → OffsetRead
-offsetAnswer at o = record { offset = offsetOf o; len = length (printOffset o); faults = faults (offsetNumbers at o) }
+offsetAnswer at o = record { offset = offsetOf o; len = length (printOffset o); faults = faults (offsetNumbers at o) true }
 
 -- s stands behind the sign of an offset that stands at `at`
 unfoldable pub offsetBehind : ℕ → Sign → List ℕ → OffsetRead
 offsetBehind at sign s =
     cond (eqb (run digit s) 0) (offsetAnswer at absent)
-    (record { offset = By (number sign (front digit s)); len = 1 + run digit s; faults = faults (numeral (at + 1) sign (front digit s) ∷ []) })
+    (record { offset = By (number sign (front digit s)); len = 1 + run digit s; faults = faults (numeral (at + 1) sign (front digit s) ∷ []) true })
 
 -- ---- intervals and locations
 abbrev pub intervalOf : (k : Kind) → Bool → ℕ → Ends k → Location
@@ -90,8 +91,8 @@ uncertainOf l = record { certain = false; start = l .start; end = l .end }
 
 unfoldable pub intervalAnswer : (k : Kind) → ℕ → Option (Ends k) → LocationRead
 intervalAnswer k at none = LR.Nothing
-intervalAnswer k at (some i) = LR.Found (intervalOf k true at i) (length (printEnds k i)) (faults (endsNumbers k at i))
+intervalAnswer k at (some i) = LR.Found (intervalOf k true at i) (length (printEnds k i)) (faults (endsNumbers k at i) (settledEnds k i))
 
 unfoldable pub locationAnswer : (k : Kind) → ℕ → Option (B.Location k) → LocationRead
 locationAnswer k at none = LR.Nothing
-locationAnswer k at (some l) = LR.Found (locationOf k at l) (length (printLocation k l)) (faults (muNumbers (endsNumbers k) at l))
+locationAnswer k at (some l) = LR.Found (locationOf k at l) (length (printLocation k l)) (faults (muNumbers (endsNumbers k) at l) (settledLocation k l))

@@ -16,6 +16,7 @@ use Rattle.lang.specs.Answer.{by-answer}
 use Rattle.lang.specs.Lang.{within}
 use Rattle.scan.specs.declared.Faults.{Faults}
 use Rattle.scan.specs.Faults.{faults}
+use Rattle.location.specs.Settled.{settledPosition, settledEnds, settledLocation}
 use Rattle.location.specs.Parse.{parsePosition}
 use Rattle.location.specs.Languages.{endsLang, locationLang}
 use Rattle.read_location.specs.declared.Position.{Position}
@@ -29,21 +30,21 @@ pub record PositionTold (k : Kind) (at : ℕ) (s : List ℕ) (p : Position) (n :
   pub parsed : parsePosition k s ≡ some tree
   pub means : p ≡ positionOf k at tree
   pub long : n ≡ length (printPosition k tree)
-  pub wrong : f ≡ faults (positionNumbers k at tree)
+  pub wrong : f ≡ faults (positionNumbers k at tree) (settledPosition k tree)
 
 pub record IntervalTold (k : Kind) (at : ℕ) (s : List ℕ) (l : Location) (n : ℕ) (f : Faults) : Type 0 where
   pub tree : Ends k
   pub parsed : endsLang k .parse s ≡ some tree
   pub means : l ≡ intervalOf k true at tree
   pub long : n ≡ length (printEnds k tree)
-  pub wrong : f ≡ faults (endsNumbers k at tree)
+  pub wrong : f ≡ faults (endsNumbers k at tree) (settledEnds k tree)
 
 pub record LocationTold (k : Kind) (at : ℕ) (s : List ℕ) (l : Location) (n : ℕ) (f : Faults) : Type 0 where
   pub tree : Body.Location k
   pub parsed : locationLang k .parse s ≡ some tree
   pub means : l ≡ locationOf k at tree
   pub long : n ≡ length (printLocation k tree)
-  pub wrong : f ≡ faults (muNumbers (endsNumbers k) at tree)
+  pub wrong : f ≡ faults (muNumbers (endsNumbers k) at tree) (settledLocation k tree)
 
 module _ (k : Kind) (at : ℕ) (s : List ℕ) where
   pub position-told : (p : Position) (n : ℕ) (f : Faults) → PR.Found p n f ≡ positionAnswer k at (parsePosition k s) → PositionTold k at s p n f

@@ -43,11 +43,12 @@ pub enum LocationRead {
     Found(Location, usize, Faults),
 }
 
-// What stands before the digits of a base: how long it is, and what it says.
+// What stands before the digits of a base: how long it is, what it says, and whether it is plainly spelled.
 struct Mark {
     len: usize,
     sign: Sign,
     cds_from: CdsFrom,
+    plain: bool,
 }
 
 // How a kind writes its positions: a base with or without an offset; digits, or `?`; a residue with digits.
@@ -71,6 +72,7 @@ fn mark_at(s: &[u8]) -> Mark
             len: 1,
             sign: Sign::Plain,
             cds_from: CdsFrom::Start,
+            plain: false,
         };
     }
     if scan::begins(s, b"-") {
@@ -78,6 +80,7 @@ fn mark_at(s: &[u8]) -> Mark
             len: 1,
             sign: Sign::Minus,
             cds_from: CdsFrom::Start,
+            plain: true,
         };
     }
     if scan::begins(s, b"*") {
@@ -85,12 +88,14 @@ fn mark_at(s: &[u8]) -> Mark
             len: 1,
             sign: Sign::Plain,
             cds_from: CdsFrom::End,
+            plain: true,
         };
     }
     Mark {
         len: 0,
         sign: Sign::Plain,
         cds_from: CdsFrom::Start,
+        plain: true,
     }
 }
 
@@ -159,7 +164,7 @@ fn cds_pos(table: &[u8; 256], s: &[u8], at: usize) -> PositionRead
             offset,
         },
         e + o.len,
-        scan::leftmost(scan::faults_of(at + k, n), later),
+        scan::settled_if(m.plain, scan::leftmost(scan::faults_of(at + k, n), later)),
     )
 }
 
@@ -303,7 +308,7 @@ pub fn interval_at(table: &[u8; 256], kind: Kind, s: &[u8], at: usize) -> Locati
             end,
         },
         k + m,
-        scan::leftmost(faults, later),
+        scan::settled_if(start.number != end.number, scan::leftmost(faults, later)),
     )
 }
 

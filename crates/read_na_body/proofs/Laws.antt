@@ -20,10 +20,14 @@ use Rattle.grammar.specs.Numbers.{muNumbers, endsNumbers, naEditNumbers, naBody
 use Rattle.lang.specs.Lang.{within}
 use Rattle.lang.specs.Whole.{whole}
 use Rattle.lang.specs.BothLang.{parseBoth}
+use Rattle.lang.specs.MuCanon.{settledMu}
 use Rattle.location.specs.Languages.{locationLang}
+use Rattle.location.specs.Settled.{settledLocation}
 use Rattle.na_edits.specs.Alphabet.{nucleotides}
 use Rattle.na_edits.specs.Brackets.{muNaEditLang}
+use Rattle.na_edits.specs.Settled.{settledNaEdit}
 use Rattle.bodies.specs.NaBodies.{naBodyLang}
+use Rattle.bodies.specs.Settled.{settledNaBody}
 use Rattle.scan.specs.declared.Faults.{Faults}
 use Rattle.scan.specs.Faults.{faults, first, faults-append}
 use Rattle.read_location.specs.declared.Location as Raw
@@ -90,5 +94,5 @@ module _ (k : Kind) (at : ℕ) (s : List ℕ) where
       unfolding naAnswer whole
       body-found h b w p q =
           let u : b ≡ naBodyOf k at (both (x .tree) (y .tree)) = p ∙ rw (x .means, y .means, x .long) in
-          let v : w ≡ faults (naBodyNumbers k at (both (x .tree) (y .tree))) = q ∙ rw (x .wrong, y .wrong, x .long) (sym (faults-append (muNumbers (endsNumbers k) at (x .tree)) (muNumbers naEditNumbers (at + length (printLocation k (x .tree))) (y .tree)))) in
+          let v : w ≡ faults (naBodyNumbers k at (both (x .tree) (y .tree))) (settledNaBody k (both (x .tree) (y .tree))) = q ∙ rw (x .wrong, y .wrong, x .long) (sym (faults-append (muNumbers (endsNumbers k) at (x .tree)) (muNumbers naEditNumbers (at + length (printLocation k (x .tree))) (y .tree)) (settledLocation k (x .tree)) (settledMu settledNaEdit (y .tree)))) in
           rw (found, both-long, eq-eqb (n + m) (length s) h, u, v)

@@ -1,4 +1,4 @@
--- What the routines give for what was found: the record with its spans, its length, and the faults of its numbers.
+-- What the routines give for what was found: the record with its spans, and its faults.
 use Prim.Native.Nat.{ℕ, _+_}
 use mathlib.Core.Path.{_≡_, refl}
 use mathlib.Core.Option.{Option, none, some}
@@ -14,6 +14,7 @@ use Rattle.grammar.specs.Bodies.{printLocation, NaBody, Body}
 use Rattle.grammar.specs.Records.{muNaEditAt, bodyAt}
 use Rattle.grammar.specs.Numbers.{naBodyNumbers, bodyNumbers}
 use Rattle.scan.specs.Faults.{faults}
+use Rattle.bodies.specs.Settled.{settledNaBody, settledBody}
 use Rattle.read_location.specs.declared.Location.{Location}
 use Rattle.read_location.specs.Answer.{locationOf}
 use Rattle.read_location.specs.Records.{locationFor, location-for}
@@ -23,7 +24,7 @@ use Rattle.read_na_body.specs.declared.BodyRead.the-variants as BR
 -- the body of any kind
 unfoldable pub bodyAnswer : (k : Kind) → ℕ → Option (Body k) → BodyRead
 bodyAnswer k at none = BR.Nothing
-bodyAnswer k at (some b) = BR.Found (bodyAt k at b) (faults (bodyNumbers k at b))
+bodyAnswer k at (some b) = BR.Found (bodyAt k at b) (faults (bodyNumbers k at b) (settledBody k b))
 
 -- ---- nucleotide kinds
 abbrev pub locEdit : Kind → Location → MuNaEdit → Record.Body
@@ -39,7 +40,7 @@ naBodyOf k at (both l e) = locEdit k (locationOf k at l) (muNaEditAt (at + lengt
 
 unfoldable pub naAnswer : (k : Kind) → ℕ → Option (NaBody k) → BodyRead
 naAnswer k at none = BR.Nothing
-naAnswer k at (some b) = BR.Found (naBodyOf k at b) (faults (naBodyNumbers k at b))
+naAnswer k at (some b) = BR.Found (naBodyOf k at b) (faults (naBodyNumbers k at b) (settledNaBody k b))
 
 -- ---- the body of a nucleotide kind is a body
 module _ (at : ℕ) where

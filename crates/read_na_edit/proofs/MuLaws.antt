@@ -20,12 +20,14 @@ use Rattle.grammar.specs.Records.{naEditAt, muNaEditAt}
 use Rattle.grammar.specs.Numbers.{naEditNumbers, muNumbers}
 use Rattle.lang.specs.Lang.{Lang}
 use Rattle.lang.specs.MuLang.{parseMu}
+use Rattle.lang.specs.MuCanon.{settledMu}
 use Rattle.lang.specs.MuReading as Reading
 use Rattle.scan.specs.Faults.{faults}
 use Rattle.scan.specs.declared.Faults.{Faults}
 use Rattle.na_edits.specs.Alphabet.{nucleotides}
 use Rattle.na_edits.specs.Parse.{parseNaEdit}
 use Rattle.na_edits.specs.Sound.{naEditLang}
+use Rattle.na_edits.specs.Settled.{settledNaEdit}
 use Rattle.read_na_edit.specs.declared.NaEditRead.the-variants.{Nothing, Found}
 use Rattle.read_na_edit.specs.declared.MuNaEditRead.{MuNaEditRead}
 use Rattle.read_na_edit.specs.declared.MuNaEditRead.the-variants as Mus
@@ -45,7 +47,7 @@ module _ (k : ℕ) (s : List ℕ) (a : ℕ) (ea : a ≡ opening s) where
   nothing e = rw e
 
   found : (t : Mu NaEdit) (r : MuNaEdit) (n : ℕ) (f : Faults) → parseMu editLang s ≡ some t → r ≡ muNaEditAt k t → n ≡ length (printMu printNaEdit t)
-      → f ≡ faults (muNumbers naEditNumbers k t) → Answered (Mus.Found r n f)
+      → f ≡ faults (muNumbers naEditNumbers k t) (settledMu settledNaEdit t) → Answered (Mus.Found r n f)
   unfolding muNaEditAnswer
   found t r n f e er en ef = rw (e, er, en, ef)
 
@@ -65,7 +67,7 @@ module _ (k : ℕ) (s : List ℕ) (a : ℕ) (ea : a ≡ opening s) where
         found (certain (inner .tree)) (Certain r) n f (Reading.mu-bare editLang s a ea (inner .tree) n (inner .parsed) (inner .long) z)
         (ap Certain (inner .means ∙ ap (λ (i : ℕ). naEditAt i (inner .tree)) place))
         (inner .long)
-        (inner .wrong ∙ ap (λ (i : ℕ). faults (naEditNumbers i (inner .tree))) place)
+        (inner .wrong ∙ ap (λ (i : ℕ). faults (naEditNumbers i (inner .tree)) (settledNaEdit (inner .tree))) place)
 
     pub mu-room : starts (ascii ")") (tail (a + n) s) ≡ true → a + n + 1 ≤ length s
     mu-room q = Reading.mu-room editLang s a ea (inner .tree) n (inner .parsed) (inner .long) (rw (tail-part (a + n) s) at q)
@@ -78,7 +80,7 @@ module _ (k : ℕ) (s : List ℕ) (a : ℕ) (ea : a ≡ opening s) where
           (Reading.mu-shut editLang s a ea (inner .tree) n (inner .parsed) (inner .long) z (rw (tail-part (a + n) s) at q))
           (ap Uncertain (inner .means ∙ ap (λ (i : ℕ). naEditAt i (inner .tree)) place))
           (Reading.mu-length editLang s a ea (inner .tree) n (inner .parsed) (inner .long) z)
-          (inner .wrong ∙ ap (λ (i : ℕ). faults (naEditNumbers i (inner .tree))) place)
+          (inner .wrong ∙ ap (λ (i : ℕ). faults (naEditNumbers i (inner .tree)) (settledNaEdit (inner .tree))) place)
 
       pub mu-left : starts (ascii ")") (tail (a + n) s) ≡ false → Answered Mus.Nothing
       mu-left q = nothing (Reading.mu-left editLang s a ea (inner .tree) n (inner .parsed) (inner .long) z (rw (tail-part (a + n) s) at q))

@@ -7,6 +7,8 @@ use Rattle.grammar.specs.NucleotideEdits.{NaEdit, printNaEdit}
 use Rattle.grammar.specs.Records.{naEditAt, muNaEditAt}
 use Rattle.grammar.specs.Numbers.{naEditNumbers, muNumbers}
 use Rattle.scan.specs.Faults.{faults}
+use Rattle.lang.specs.MuCanon.{settledMu}
+use Rattle.na_edits.specs.Settled.{settledNaEdit}
 use Rattle.read_na_edit.specs.declared.NaEditRead.{NaEditRead}
 use Rattle.read_na_edit.specs.declared.NaEditRead.the-variants as NaEditRead
 use Rattle.read_na_edit.specs.declared.MuNaEditRead.{MuNaEditRead}
@@ -14,8 +16,8 @@ use Rattle.read_na_edit.specs.declared.MuNaEditRead.the-variants as MuNa
 
 unfoldable pub naEditAnswer : ℕ → Option NaEdit → NaEditRead
 naEditAnswer at none = NaEditRead.Nothing
-naEditAnswer at (some t) = NaEditRead.Found (naEditAt at t) (length (printNaEdit t)) (faults (naEditNumbers at t))
+naEditAnswer at (some t) = NaEditRead.Found (naEditAt at t) (length (printNaEdit t)) (faults (naEditNumbers at t) (settledNaEdit t))
 
 unfoldable pub muNaEditAnswer : ℕ → Option (Mu NaEdit) → MuNaEditRead
 muNaEditAnswer at none = MuNaEditRead.Nothing
-muNaEditAnswer at (some t) = MuNaEditRead.Found (muNaEditAt at t) (length (printMu printNaEdit t)) (faults (muNumbers naEditNumbers at t))
+muNaEditAnswer at (some t) = MuNaEditRead.Found (muNaEditAt at t) (length (printMu printNaEdit t)) (faults (muNumbers naEditNumbers at t) (settledMu settledNaEdit t))

@@ -15,6 +15,8 @@ use Rattle.grammar.specs.Numbers.{naEditNumbers, muNumbers}
 use Rattle.lang.specs.Answer.{by-answer}
 use Rattle.scan.specs.declared.Faults.{Faults}
 use Rattle.scan.specs.Faults.{faults}
+use Rattle.lang.specs.MuCanon.{settledMu}
+use Rattle.na_edits.specs.Settled.{settledNaEdit}
 use Rattle.na_edits.specs.Alphabet.{nucleotides}
 use Rattle.na_edits.specs.Parse.{parseNaEdit}
 use Rattle.na_edits.specs.Brackets.{muNaEditLang}
@@ -27,14 +29,14 @@ pub record EditTold (at : ℕ) (s : List ℕ) (e : Declared.NaEdit) (n : ℕ) (f
   pub parsed : parseNaEdit nucleotide s ≡ some tree
   pub means : e ≡ naEditAt at tree
   pub long : n ≡ length (printNaEdit tree)
-  pub wrong : f ≡ faults (naEditNumbers at tree)
+  pub wrong : f ≡ faults (naEditNumbers at tree) (settledNaEdit tree)
 
 pub record MuTold (at : ℕ) (s : List ℕ) (e : MuNaEdit) (n : ℕ) (f : Faults) : Type 0 where
   pub tree : Mu NaEdit
   pub parsed : muNaEditLang nucleotide nucleotides .parse s ≡ some tree
   pub means : e ≡ muNaEditAt at tree
   pub long : n ≡ length (printMu printNaEdit tree)
-  pub wrong : f ≡ faults (muNumbers naEditNumbers at tree)
+  pub wrong : f ≡ faults (muNumbers naEditNumbers at tree) (settledMu settledNaEdit tree)
 
 module _ (at : ℕ) (s : List ℕ) where
   pub edit-told : (e : Declared.NaEdit) (n : ℕ) (f : Faults) → Edits.Found e n f ≡ naEditAnswer at (parseNaEdit nucleotide s) → EditTold at s e n f

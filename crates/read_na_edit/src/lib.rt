@@ -66,7 +66,7 @@ fn subst(table: &[u8; 256], s: &[u8], at: usize) -> NaEditRead
     NaEditRead::Found(
         NaEdit::RefAlt(scan::span(at, 1), scan::span(at + 2, 1)),
         3,
-        scan::no_faults(),
+        scan::settled_if(s[0] != s[2], scan::no_faults()),
     )
 }
 
@@ -110,7 +110,7 @@ fn after_del(table: &[u8; 256], s: &[u8], at: usize) -> NaEditRead
         return NaEditRead::Found(
             NaEdit::RefAlt(scan::span(at + 3, m), scan::span(at + 3 + m + 3, b)),
             3 + m + 3 + b,
-            scan::no_faults(),
+            scan::settled_if(m != b, scan::no_faults()),
         );
     }
     let n = number::number_at(table, s, Sign::Plain);

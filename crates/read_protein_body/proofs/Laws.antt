@@ -3,13 +3,13 @@ use Prim.Native.Nat.{ℕ, _+_, _-_, _≤_}
 use mathlib.Core.Path.{_≡_, refl, sym, ap, _∙_}
 use mathlib.Core.List.{List, [], _∷_, _++_}
 use mathlib.Core.Option.{Option, none, some}
-use mathlib.Core.Bool.{Bool, true, false, cond}
+use mathlib.Core.Bool.{Bool, true, false, not, cond, _&&_}
 use native.Mathlib.Omega.{arith}
 use lib.ListN.{length, take, drop, length-append, length-drop}
 use borrow.Author.Tests.{eq-eqb, ne-eqb}
 use Rattle.texts.specs.Ascii.{ascii}
 use Rattle.texts.specs.Slices.{tail-part, tail-at, tail-beyond}
-use Rattle.texts.specs.Words.{starts, starts-length, same, same-starts, same-lengths}
+use Rattle.texts.specs.Words.{starts, starts-length, same, same-true, same-starts, same-lengths}
 use Rattle.record.specs.declared.variant.Kind.the-variants.{Prot}
 use Rattle.record.specs.declared.edits.MuProteinEdit.{MuProteinEdit}
 use Rattle.record.specs.declared.edits.MuProteinEdit.the-variants.{Uncertain}
@@ -25,11 +25,15 @@ use Rattle.grammar.specs.Numbers.{muNumbers, endsNumbers, proteinEditNumbers, p
 use Rattle.lang.specs.Answer.{by-answer}
 use Rattle.lang.specs.Lang.{within}
 use Rattle.lang.specs.Canon.{mapO}
+use Rattle.lang.specs.MuCanon.{settledMu}
 use Rattle.location.specs.Languages.{endsLang}
+use Rattle.location.specs.Settled.{settledEnds}
 use Rattle.protein_edits.specs.Instance.{proteinEditLang, muProteinEditLang}
+use Rattle.protein_edits.specs.Settled.{settledProteinEdit}
 use Rattle.bodies.specs.ProteinBodies.{exactBodies, firstExact, closing, parsePlain, parseOpened, parseOrdinary, parseProteinBody}
+use Rattle.bodies.specs.Settled.{settledProteinBody}
 use Rattle.scan.specs.declared.Faults.{Faults}
-use Rattle.scan.specs.Faults.{faults, first, faults-append, faults-nil, none as noFaults}
+use Rattle.scan.specs.Faults.{faults, first, settledIf, none as noFaults, faults-append, settled-if, settled-none}
 use Rattle.read_location.specs.declared.Location.{Location}
 use Rattle.read_location.specs.declared.LocationRead.the-variants as LR
 use Rattle.read_location.specs.Answer.{uncertainOf, intervalAnswer}
@@ -131,7 +135,7 @@ module _ (at : ℕ) (s : List ℕ) where
         let k : ℕ = length (printEnds Prot (x .tree)) in
         let a : locationFor Prot l ≡ locationAt Prot at (certain (x .tree)) = rw (x .means) (location-for Prot at (certain (x .tree))) in
         let b : n + length (printMu printProteinEdit e) ≡ length (printEnds Prot (x .tree) ++ printMu printProteinEdit e) = rw (x .long) (sym (length-append (printEnds Prot (x .tree)) (printMu printProteinEdit e))) in
-        let c : first f (faults (muNumbers proteinEditNumbers (at + n) e)) ≡ faults (endsNumbers Prot at (x .tree) ++ muNumbers proteinEditNumbers (at + k) e) = rw (x .wrong, x .long) (sym (faults-append (endsNumbers Prot at (x .tree)) (muNumbers proteinEditNumbers (at + k) e))) in
+        let c : first f (faults (muNumbers proteinEditNumbers (at + n) e) (settledMu settledProteinEdit e)) ≡ faults (endsNumbers Prot at (x .tree) ++ muNumbers proteinEditNumbers (at + k) e) (settledEnds Prot (x .tree) && settledMu settledProteinEdit e) = rw (x .wrong, x .long) (sym (faults-append (endsNumbers Prot at (x .tree)) (muNumbers proteinEditNumbers (at + k) e) (settledEnds Prot (x .tree)) (settledMu settledProteinEdit e))) in
         rw (a, b, c, x .long)
 
     pub plain-found : (r : OrdinaryRead) → r ≡ afterAnswer l n f (at + n) (muProteinEditLang .parse (take (length s - n) (drop n s))) → r ≡ ordinaryAnswer at (parsePlain s)
@@ -144,23 +148,24 @@ module _ (at : ℕ) (s : List ℕ) {l : Location} {n : ℕ} {f : Faults} (x : In
   closed-le e = omega (arith, starts-length (ascii ")") (take (length s - n) (drop n s)) e, ap length (tail-part n s), length-drop n s, interval-within x)
 
   -- `(`location`)`, then an edit
-  after-shut : (u : Location) → u ≡ uncertainOf l → (o : Option (Mu ProteinEdit)) → afterAnswer u (1 + (n + 1)) f (at + (1 + (n + 1))) o ≡ ordinaryAnswer at (mapO (λ e. change (both (uncertain (x .tree)) e)) o)
+  after-shut : (u : Location) (g : Faults) → u ≡ uncertainOf l → g ≡ settledIf false f → (o : Option (Mu ProteinEdit)) → afterAnswer u (1 + (n + 1)) g (at + (1 + (n + 1))) o ≡ ordinaryAnswer at (mapO (λ e. change (both (uncertain (x .tree)) e)) o)
   unfolding ordinaryAnswer
-  after-shut u h none = refl
-  after-shut u h (some e) =
+  after-shut u g h eg none = refl
+  after-shut u g h eg (some e) =
       let k : ℕ = length (printMu (printEnds Prot) (uncertain (x .tree))) in
       let j : 1 + (n + 1) ≡ k = omega (arith, x .long, length-append (printEnds Prot (x .tree)) (ascii ")")) in
       let a : locationFor Prot u ≡ uncertainly Prot (intervalAt Prot (at + 1) (x .tree)) = rw (h, x .means) (uncertain-for Prot (at + 1) (x .tree)) in
       let b : k + length (printMu printProteinEdit e) ≡ length (printMu (printEnds Prot) (uncertain (x .tree)) ++ printMu printProteinEdit e) = sym (length-append (printMu (printEnds Prot) (uncertain (x .tree))) (printMu printProteinEdit e)) in
-      let c : first f (faults (muNumbers proteinEditNumbers (at + k) e)) ≡ faults (endsNumbers Prot (at + 1) (x .tree) ++ muNumbers proteinEditNumbers (at + k) e) = rw (x .wrong) (sym (faults-append (endsNumbers Prot (at + 1) (x .tree)) (muNumbers proteinEditNumbers (at + k) e))) in
+      let d : g ≡ faults (endsNumbers Prot (at + 1) (x .tree)) false = eg ∙ rw (x .wrong) (settled-if false (endsNumbers Prot (at + 1) (x .tree)) (settledEnds Prot (x .tree))) in
+      let c : first g (faults (muNumbers proteinEditNumbers (at + k) e) (settledMu settledProteinEdit e)) ≡ faults (endsNumbers Prot (at + 1) (x .tree) ++ muNumbers proteinEditNumbers (at + k) e) false = rw d (sym (faults-append (endsNumbers Prot (at + 1) (x .tree)) (muNumbers proteinEditNumbers (at + k) e) false (settledMu settledProteinEdit e))) in
       rw (j, a, b, c)
 
-  pub shut-found : starts (ascii ")") (take (length s - n) (drop n s)) ≡ true → (u : Location) → u ≡ uncertainOf l → (r : OrdinaryRead)
-      → r ≡ afterAnswer u (1 + (n + 1)) f (at + (1 + (n + 1))) (muProteinEditLang .parse (take (length s - (n + 1)) (drop (n + 1) s))) → r ≡ ordinaryAnswer at (parseOpened s)
+  pub shut-found : starts (ascii ")") (take (length s - n) (drop n s)) ≡ true → (u : Location) (g : Faults) → u ≡ uncertainOf l → g ≡ settledIf false f → (r : OrdinaryRead)
+      → r ≡ afterAnswer u (1 + (n + 1)) g (at + (1 + (n + 1))) (muProteinEditLang .parse (take (length s - (n + 1)) (drop (n + 1) s))) → r ≡ ordinaryAnswer at (parseOpened s)
   unfolding parseOpened
-  shut-found q u h r e =
+  shut-found q u g h eg r e =
       let w : take (length s - (n + 1)) (drop (n + 1) s) ≡ drop 1 (drop (length (printEnds Prot (x .tree))) s) = tail-beyond 1 s (x .long) in
-      e ∙ after-shut u h (muProteinEditLang .parse (take (length s - (n + 1)) (drop (n + 1) s))) ∙ rw (x .parsed, rw (behind (at + 1) s x) at q, w)
+      e ∙ after-shut u g h eg (muProteinEditLang .parse (take (length s - (n + 1)) (drop (n + 1) s))) ∙ rw (x .parsed, rw (behind (at + 1) s x) at q, w)
 
   -- `(`location edit`)`
   inside-closing : (r : List ℕ) (o : Option ProteinEdit) → insideAnswer l n f (at + 1 + n) r o ≡ ordinaryAnswer at (closing (x .tree) r o)
@@ -171,11 +176,11 @@ module _ (at : ℕ) (s : List ℕ) {l : Location} {n : ℕ} {f : Faults} (x : In
       k : ℕ
       k = length (printEnds Prot (x .tree))
 
-      go : (b : Bool) → cond b (OR.Found (Ordinary (locationFor Prot (uncertainOf l)) (Uncertain (proteinEditAt (at + 1 + n) e))) (1 + n + length (printProteinEdit e) + 1) (first f (faults (proteinEditNumbers (at + 1 + n) e)))) OR.Nothing ≡ ordinaryAnswer at (cond b (some (bracketed (both (x .tree) e))) none)
+      go : (b : Bool) → cond b (OR.Found (Ordinary (locationFor Prot (uncertainOf l)) (Uncertain (proteinEditAt (at + 1 + n) e))) (1 + n + length (printProteinEdit e) + 1) (first f (faults (proteinEditNumbers (at + 1 + n) e) (settledProteinEdit e)))) OR.Nothing ≡ ordinaryAnswer at (cond b (some (bracketed (both (x .tree) e))) none)
       go true =
           let a : locationFor Prot (uncertainOf l) ≡ uncertainly Prot (intervalAt Prot (at + 1) (x .tree)) = rw (x .means) (uncertain-for Prot (at + 1) (x .tree)) in
           let b : 1 + n + length (printProteinEdit e) + 1 ≡ length (printProteinBody (bracketed (both (x .tree) e))) = omega (arith, x .long, length-append (printEnds Prot (x .tree) ++ printProteinEdit e) (ascii ")"), length-append (printEnds Prot (x .tree)) (printProteinEdit e)) in
-          let c : first f (faults (proteinEditNumbers (at + 1 + n) e)) ≡ faults (endsNumbers Prot (at + 1) (x .tree) ++ proteinEditNumbers (at + 1 + n) e) = rw (x .wrong) (sym (faults-append (endsNumbers Prot (at + 1) (x .tree)) (proteinEditNumbers (at + 1 + n) e))) in
+          let c : first f (faults (proteinEditNumbers (at + 1 + n) e) (settledProteinEdit e)) ≡ faults (endsNumbers Prot (at + 1) (x .tree) ++ proteinEditNumbers (at + 1 + n) e) (settledEnds Prot (x .tree) && settledProteinEdit e) = rw (x .wrong) (sym (faults-append (endsNumbers Prot (at + 1) (x .tree)) (proteinEditNumbers (at + 1 + n) e) (settledEnds Prot (x .tree)) (settledProteinEdit e))) in
           rw (a, b, c, x .long)
       go false = refl
 
@@ -208,29 +213,37 @@ exact-told s b h =
 pub exact-none : (s : List ℕ) → ER.Nothing ≡ exactAnswer (firstExact exactBodies s) → firstExact exactBodies s ≡ none
 exact-none s h = by-answer exactAnswer (firstExact exactBodies s) h (λ q z. q) (λ t q z. absurd (let y : _≡_ {A = ℕ} 0 1 = cc in omega arith))
 
--- a body without location has no place and no number
-abbrev Placeless : ProteinBody → Type 0
-Placeless b = (k : ℕ) → (proteinBodyAt k b ≡ proteinBodyAt 0 b) × (proteinBodyNumbers k b ≡ [])
+-- a body without location has no place and no number, and is settled where its text is in no brackets
+record Exact (b : ProteinBody) : Type 0 where
+  place : (k : ℕ) → proteinBodyAt k b ≡ proteinBodyAt 0 b
+  numbers : (k : ℕ) → proteinBodyNumbers k b ≡ []
+  settled : settledProteinBody b ≡ not (starts (ascii "(") (printProteinBody b))
 
-abbrev AllPlaceless : List ProteinBody → Type 0
-AllPlaceless [] = Unit
-AllPlaceless (b ∷ bs) = Placeless b × AllPlaceless bs
+abbrev AllExact : List ProteinBody → Type 0
+AllExact [] = Unit
+AllExact (b ∷ bs) = Exact b × AllExact bs
 
-placeless : (bs : List ProteinBody) (s : List ℕ) (t : ProteinBody) → AllPlaceless bs → firstExact bs s ≡ some t → Placeless t
+which-exact : (bs : List ProteinBody) (s : List ℕ) (t : ProteinBody) → AllExact bs → firstExact bs s ≡ some t → Exact t × (printProteinBody t ≡ s)
 unfolding firstExact
-placeless [] s t w h = absurd (let z : _≡_ {A = ℕ} 0 1 = cc in omega arith)
-placeless (b ∷ bs) s t w h = go (same (printProteinBody b) s) h (placeless bs s t (w .1))
+which-exact [] s t w h = absurd (let z : _≡_ {A = ℕ} 0 1 = cc in omega arith)
+which-exact (b ∷ bs) s t w h = go (same (printProteinBody b) s) refl h (which-exact bs s t (w .1))
   where
-    go : (x : Bool) → cond x (some b) (firstExact bs s) ≡ some t → (firstExact bs s ≡ some t → Placeless t) → Placeless t
-    go true k rest = let j : b ≡ t = cc in rw (← j) (w .0)
-    go false k rest = rest k
+    go : (x : Bool) → same (printProteinBody b) s ≡ x → cond x (some b) (firstExact bs s) ≡ some t → (firstExact bs s ≡ some t → Exact t × (printProteinBody t ≡ s)) → Exact t × (printProteinBody t ≡ s)
+    go true q k rest = let j : b ≡ t = cc in rw (← j) (w .0, same-true (printProteinBody b) s q)
+    go false q k rest = rest k
+
+all-exact : AllExact exactBodies
+unfolding starts
+all-exact =
+    let exact : (b : ProteinBody) → ((k : ℕ) → proteinBodyAt k b ≡ proteinBodyAt 0 b) → ((k : ℕ) → proteinBodyNumbers k b ≡ []) → settledProteinBody b ≡ not (starts (ascii "(") (printProteinBody b)) → Exact b = λ b p n q. record { place = p; numbers = n; settled = q } in
+    (exact _ (λ k. refl) (λ k. refl) refl, (exact _ (λ k. refl) (λ k. refl) refl, (exact _ (λ k. refl) (λ k. refl) refl, (exact _ (λ k. refl) (λ k. refl) refl, (exact _ (λ k. refl) (λ k. refl) refl, (exact _ (λ k. refl) (λ k. refl) refl, (exact _ (λ k. refl) (λ k. refl) refl, tt)))))))
 
 pub record OrdinaryTold (at : ℕ) (s : List ℕ) (b : ProtLocEdit) (n : ℕ) (f : Faults) : Type 0 where
   pub tree : ProteinBody
   pub parsed : parseOrdinary s ≡ some tree
   pub means : b ≡ proteinBodyAt at tree
   pub long : n ≡ length (printProteinBody tree)
-  pub wrong : f ≡ faults (proteinBodyNumbers at tree)
+  pub wrong : f ≡ faults (proteinBodyNumbers at tree) (settledProteinBody tree)
 
 module _ (at : ℕ) (s : List ℕ) where
   pub ordinary-told : (b : ProtLocEdit) (n : ℕ) (f : Faults) → OR.Found b n f ≡ ordinaryAnswer at (parseOrdinary s) → OrdinaryTold at s b n f
@@ -239,12 +252,14 @@ module _ (at : ℕ) (s : List ℕ) where
       by-answer (ordinaryAnswer at) (parseOrdinary s) h (λ q z. absurd (let y : _≡_ {A = ℕ} 0 1 = cc in omega arith))
       (λ t q z. record { tree = t; parsed = q; means = cc; long = cc; wrong = cc })
 
-  pub exact-found : (b : ProtLocEdit) (w : Faults) → ExactTold s b → w ≡ noFaults → BR.Found (Bo.Prot b) w ≡ bodyAnswer Prot at (parseProteinBody s)
+  pub exact-found : (b : ProtLocEdit) (f w : Faults) (opened : Bool) → ExactTold s b → opened ≡ starts (ascii "(") s → f ≡ noFaults → w ≡ settledIf (not opened) f → BR.Found (Bo.Prot b) w ≡ bodyAnswer Prot at (parseProteinBody s)
   unfolding bodyAnswer parseProteinBody
-  exact-found b w x h =
-      let p = placeless exactBodies s (x .tree) (λ k. (refl, refl), (λ k. (refl, refl), (λ k. (refl, refl), (λ k. (refl, refl), (λ k. (refl, refl), (λ k. (refl, refl), (λ k. (refl, refl), tt))))))) (x .parsed) at in
-      let a : b ≡ proteinBodyAt at (x .tree) = x .means ∙ sym (p .0) in
-      let c : w ≡ faults (proteinBodyNumbers at (x .tree)) = h ∙ sym (ap faults (p .1) ∙ faults-nil) in
+  exact-found b f w opened x eo ef ew =
+      let t = x .tree in
+      let p = which-exact exactBodies s t all-exact (x .parsed) in
+      let a : b ≡ proteinBodyAt at t = x .means ∙ sym (p .0 .place at) in
+      let e : settledProteinBody t ≡ not opened = p .0 .settled ∙ rw (eo, ← p .1) in
+      let c : w ≡ faults (proteinBodyNumbers at t) (settledProteinBody t) = ew ∙ rw (p .0 .numbers at, e, ef) (settled-none (not opened)) in
       rw (x .parsed, a, c)
 
   module _ (none-exact : firstExact exactBodies s ≡ none) where

@@ -1,4 +1,4 @@
--- What the routines give for what was found: the record with its spans, its length, and the faults of its numbers.
+-- What the routines give for what was found: the record with its spans, its length, and its faults.
 use Prim.Native.Nat.{ℕ, _+_}
 use mathlib.Core.List.{List}
 use mathlib.Core.Option.{Option, none, some}
@@ -15,7 +15,10 @@ use Rattle.grammar.specs.Bodies.{ProteinBody, printProteinBody}
 use Rattle.grammar.specs.Records.{proteinEditAt, muProteinEditAt, proteinBodyAt}
 use Rattle.grammar.specs.Numbers.{muNumbers, proteinEditNumbers, proteinBodyNumbers}
 use Rattle.scan.specs.declared.Faults.{Faults}
+use Rattle.lang.specs.MuCanon.{settledMu}
 use Rattle.scan.specs.Faults.{faults, first}
+use Rattle.protein_edits.specs.Settled.{settledProteinEdit}
+use Rattle.bodies.specs.Settled.{settledProteinBody}
 use Rattle.read_location.specs.declared.Location.{Location}
 use Rattle.read_location.specs.Answer.{uncertainOf}
 use Rattle.read_location.specs.Records.{locationFor}
@@ -30,17 +33,17 @@ exactAnswer (some b) = ER.Found (proteinBodyAt 0 b)
 
 unfoldable pub ordinaryAnswer : ℕ → Option ProteinBody → OrdinaryRead
 ordinaryAnswer at none = OR.Nothing
-ordinaryAnswer at (some b) = OR.Found (proteinBodyAt at b) (length (printProteinBody b)) (faults (proteinBodyNumbers at b))
+ordinaryAnswer at (some b) = OR.Found (proteinBodyAt at b) (length (printProteinBody b)) (faults (proteinBodyNumbers at b) (settledProteinBody b))
 
 -- behind a location l of n bytes with faults f
 abbrev pub afterAnswer : Location → ℕ → Faults → ℕ → Option (Mu ProteinEdit) → OrdinaryRead
 afterAnswer l n f at none = OR.Nothing
-afterAnswer l n f at (some e) = OR.Found (Ordinary (locationFor Prot l) (muProteinEditAt at e)) (n + length (printMu printProteinEdit e)) (first f (faults (muNumbers proteinEditNumbers at e)))
+afterAnswer l n f at (some e) = OR.Found (Ordinary (locationFor Prot l) (muProteinEditAt at e)) (n + length (printMu printProteinEdit e)) (first f (faults (muNumbers proteinEditNumbers at e) (settledMu settledProteinEdit e)))
 
 -- the same inside one pair of brackets, s from the edit on
 abbrev pub insideAnswer : Location → ℕ → Faults → ℕ → List ℕ → Option ProteinEdit → OrdinaryRead
 insideAnswer l n f at s none = OR.Nothing
 insideAnswer l n f at s (some e) =
     cond (starts (ascii ")") (drop (length (printProteinEdit e)) s))
-    (OR.Found (Ordinary (locationFor Prot (uncertainOf l)) (Uncertain (proteinEditAt at e))) (1 + n + length (printProteinEdit e) + 1) (first f (faults (proteinEditNumbers at e))))
+    (OR.Found (Ordinary (locationFor Prot (uncertainOf l)) (Uncertain (proteinEditAt at e))) (1 + n + length (printProteinEdit e) + 1) (first f (faults (proteinEditNumbers at e) (settledProteinEdit e))))
     OR.Nothing

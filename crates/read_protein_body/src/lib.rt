@@ -137,7 +137,7 @@ fn opened(table: &[u8; 256], s: &[u8], at: usize) -> OrdinaryRead
             table,
             read_location::uncertain(l),
             behind,
-            faults,
+            scan::settled_if(false, faults),
             &s[k..],
             at + behind,
         );
@@ -171,7 +171,10 @@ pub fn prot_body(table: &[u8; 256], s: &[u8], at: usize) -> BodyRead
     ensures { λ r. ⌜ r ≡ bodyAnswer Prot at (parseProteinBody (now (s .entry))) ⌝ }
 {
     if let ExactRead::Found(b) = exact(s) {
-        return BodyRead::Found(Body::Prot(b), scan::no_faults());
+        return BodyRead::Found(
+            Body::Prot(b),
+            scan::settled_if(!scan::begins(s, b"("), scan::no_faults()),
+        );
     }
     let OrdinaryRead::Found(b, n, faults) = ordinary(table, s, at) else {
         return BodyRead::Nothing;

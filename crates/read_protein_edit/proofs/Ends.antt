@@ -1,7 +1,7 @@
 -- What stands behind `fs` and `ext`: the clauses of the list parser, by the tests that the program makes.
 use Prim.Native.Nat.{ℕ, _+_, _-_, _≤_}
 use mathlib.Core.Path.{_≡_, refl, sym, ap, _∙_}
-use mathlib.Core.List.{List, []}
+use mathlib.Core.List.{List, [], _∷_}
 use mathlib.Core.Option.{Option, none, some}
 use mathlib.Core.Bool.{Bool, true, false}
 use native.Mathlib.Omega.{arith}
@@ -31,7 +31,8 @@ use Rattle.grammar.specs.Optional.{printOptional}
 use Rattle.grammar.specs.ProteinEdits.{Terminal, Terminal.ter, Terminal.x, Terminal.star, Stop, Stop.stop, ExtEnd, ExtEnd.earlier, printTerminal, printFsEnd, printExtEnd}
 use Rattle.grammar.specs.Records.{span, partOf}
 use Rattle.lang.specs.Lang.{front-within}
-use Rattle.scan.specs.Faults.{faults, none as noFault, unfitUnless, faults-nil}
+use Rattle.grammar.specs.Numbers.{Numeral.numeral}
+use Rattle.scan.specs.Faults.{faults, none as noFault, ofNumber, settledIf, faults-nil, settled-only}
 use Rattle.scan.specs.Reading.{number-run, number-len, number-le, number-value, number-faults}
 use Rattle.scan.specs.declared.Faults.{Faults}
 use Rattle.protein_edits.specs.Parse.{bytesOf, terminalAt, lengthAt, stopAt, earlierWith, earlierAt, laterOf, extEndAt}
@@ -71,7 +72,7 @@ module _ (s : List ℕ) where
 
 -- ---- lengths
 module _ (at : ℕ) (s : List ℕ) (f : Faults) where
-  pub length-counted : (n : Number) → n ≡ numberAt Plain s → (n .len ≡ 0 → ⊥) → f ≡ unfitUnless (n .fits) at
+  pub length-counted : (n : Number) → n ≡ numberAt Plain s → (n .len ≡ 0 → ⊥) → f ≡ ofNumber (n .fits) (n .plain) at
       → _≡_ {A = LengthRead} (record { change = Known (toZ w32 (ofZ w32 (n .value))); len = n .len; faults = f }) (lengthRead at (lengthAt s))
   unfolding lengthRead lengthAt
   length-counted n e h ef =
@@ -206,14 +207,14 @@ module _ (k n : ℕ) (s : List ℕ) (m : ℕ) (em : m ≡ residueLen s) where
         let q : run digit (digitsOf m s) ≡ 0 → ⊥ = λ i. e (number-run Negated (digitsOf m s) d digits ∙ i) in
         rw (earlier-is, minus, bytes-some (run digit (digitsOf m s)) (digitsOf m s) q)
 
-    pub earlier-found : (p q : Part) (f : Faults) → (d .len ≡ 0 → ⊥) → p ≡ residuePart k n → q ≡ residuePart (k + n + 3) m → f ≡ unfitUnless (d .fits) (k + n + 3 + m + 1)
-        → Found (Ext p q (Known (toZ w32 (ofZ w32 (d .value))))) (n + 3 + m + 1 + d .len) f ≡ earlierRead k n (earlierAt s)
+    pub earlier-found : (p q : Part) (f g : Faults) → (d .len ≡ 0 → ⊥) → p ≡ residuePart k n → q ≡ residuePart (k + n + 3) m → f ≡ ofNumber (d .fits) (d .plain) (k + n + 3 + m + 1) → g ≡ settledIf false f
+        → Found (Ext p q (Known (toZ w32 (ofZ w32 (d .value))))) (n + 3 + m + 1 + d .len) g ≡ earlierRead k n (earlierAt s)
     unfolding earlierRead extRead
-    earlier-found p q f e ep eq ef =
+    earlier-found p q f g e ep eq ef eg =
         let l : length (printOptional [] (bytesOf m s)) ≡ m = bytes-length m s behind-residue in
         let a : length (printExtEnd (earlier (bytesOf m s) (front digit (digitsOf m s)))) ≡ m + (1 + d .len) = rw (length-append, l, number-len Negated (digitsOf m s) d digits) (omega arith) in
         let b : n + 3 + m + 1 + d .len ≡ n + 3 + length (printExtEnd (earlier (bytesOf m s) (front digit (digitsOf m s)))) = rw a (omega arith) in
-        rw (found-earlier e, b, ep, eq, bytes-part (k + n + 3) m s behind-residue, number-value Negated (digitsOf m s) d digits, ef, l, number-faults Negated (digitsOf m s) d digits (k + n + 3 + m + 1))
+        rw (found-earlier e, b, ep, eq, bytes-part (k + n + 3) m s behind-residue, number-value Negated (digitsOf m s) d digits, eg, ef, l, number-faults Negated (digitsOf m s) d digits (k + n + 3 + m + 1), settled-only false (numeral (k + n + 3 + m + 1) Negated (front digit (digitsOf m s)) ∷ []))
 
 -- ---- behind `ext`: the first of the two that finds something
 module _ (k n : ℕ) (s : List ℕ) (r : ProteinEditRead) (e : r ≡ earlierRead k n (earlierAt s)) where

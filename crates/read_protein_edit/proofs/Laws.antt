@@ -19,20 +19,21 @@ use Rattle.grammar.specs.Optional.{printOptional}
 use Rattle.grammar.specs.ProteinEdits.{printFsEnd, printExtEnd, Stop, ExtEnd, ProteinEdit, ProteinEdit.subst, ProteinEdit.substUnknown, ProteinEdit.equal, ProteinEdit.del, ProteinEdit.dup, ProteinEdit.fs, ProteinEdit.ext, ProteinEdit.ins, ProteinEdit.delIns, printProteinEdit}
 use Rattle.grammar.specs.Records.{span, spanOf, proteinEditAt}
 use Rattle.grammar.specs.Numbers.{proteinEditNumbers}
-use Rattle.scan.specs.Faults.{none as noFault, faults-nil}
+use Rattle.scan.specs.Faults.{none as noFault, notSettled, settledIf, settled-none}
 use Rattle.scan.specs.declared.Faults.{Faults}
 use Rattle.protein_edits.specs.Parse.{bytesOf, stopAt, extEndAt, residuesBehind, insertedAt, wordedAt, parseWith, parse}
 use Rattle.protein_edits.specs.Complete.{bytes-some}
+use Rattle.protein_edits.specs.Settled.{settledProteinEdit}
 use Rattle.read_protein_edit.specs.declared.ProteinEditRead.{ProteinEditRead}
 use Rattle.read_protein_edit.specs.declared.ProteinEditRead.the-variants.{Nothing, Found}
 use Rattle.read_protein_edit.specs.Answer.{proteinEditAnswer, fsRead, extRead}
 use Rattle.read_protein_edit.proofs.Ends.{bytes-part, bytes-length}
 
 -- a tree without numbers
-found : (k : ℕ) (t : ProteinEdit) (r : D.ProteinEdit) (n : ℕ) (f : Faults) → r ≡ proteinEditAt k t → n ≡ length (printProteinEdit t) → proteinEditNumbers k t ≡ [] → f ≡ noFault
+found : (k : ℕ) (t : ProteinEdit) (r : D.ProteinEdit) (n : ℕ) (f : Faults) → r ≡ proteinEditAt k t → n ≡ length (printProteinEdit t) → proteinEditNumbers k t ≡ [] → f ≡ settledIf (settledProteinEdit t) noFault
     → Found r n f ≡ proteinEditAnswer k (some t)
 unfolding proteinEditAnswer
-found k t r n f er el en ef = rw (er, el, en, ef, faults-nil)
+found k t r n f er el en ef = rw (er, el, en, ef, settled-none (settledProteinEdit t))
 
 -- a part of a part
 pub tail-tail : (n j : ℕ) (s : List ℕ) → tail j (tail n s) ≡ drop j (drop n s)
@@ -69,21 +70,21 @@ module _ (w s : List ℕ) where
 
     -- the answer for the tree of them
     inserted-found : (k : ℕ) (tree : List ℕ → ProteinEdit) (made : Span → D.ProteinEdit) → ((rs : List ℕ) → printProteinEdit (tree rs) ≡ w ++ rs) → ((rs : List ℕ) → proteinEditAt k (tree rs) ≡ made (spanOf (k + length w) rs))
-        → ((rs : List ℕ) → proteinEditNumbers k (tree rs) ≡ []) → (p : Span) (f : Faults) → (m ≡ 0 → ⊥) → p ≡ span (k + length w) m → f ≡ noFault
+        → ((rs : List ℕ) → proteinEditNumbers k (tree rs) ≡ []) → ((rs : List ℕ) → settledProteinEdit (tree rs) ≡ true) → (p : Span) (f : Faults) → (m ≡ 0 → ⊥) → p ≡ span (k + length w) m → f ≡ noFault
         → Found (made p) (length w + m) f ≡ proteinEditAnswer k (some (tree (take m (drop (length w) s))))
-    inserted-found k tree made text at numbers p f n ep ef =
+    inserted-found k tree made text at numbers settled p f n ep ef =
         let rs : List ℕ = take m (drop (length w) s) in
         let l : length rs ≡ m = length-take-le m (drop (length w) s) (omega (arith, behind-room n, length-drop (length w) s)) in
         let i : made p ≡ proteinEditAt k (tree rs) = rw (at rs, l, ep) in
         let j : length w + m ≡ length (printProteinEdit (tree rs)) = rw (text rs, length-append, l) in
-        found k (tree rs) (made p) (length w + m) f i j (numbers rs) ef
+        found k (tree rs) (made p) (length w + m) f i j (numbers rs) (rw (settled rs) ef)
 
 -- ---- words
 module _ (k : ℕ) (s : List ℕ) (m : ℕ) (em : m ≡ residuesBehind (ascii "delins") s) where
   pub found-delins : (p : Span) (f : Faults) → (m ≡ 0 → ⊥) → p ≡ span (k + 6) m → f ≡ noFault → Found (DelIns p) (6 + m) f ≡ proteinEditAnswer k (wordedAt s)
   unfolding wordedAt
   found-delins p f n ep ef =
-      rw (inserted-some (ascii "delins") s m em n) (inserted-found (ascii "delins") s m em k delIns DelIns (λ rs. refl) (λ rs. refl) (λ rs. refl) p f n ep ef)
+      rw (inserted-some (ascii "delins") s m em n) (inserted-found (ascii "delins") s m em k delIns DelIns (λ rs. refl) (λ rs. refl) (λ rs. refl) (λ rs. refl) p f n ep ef)
 
   module _ (z : m ≡ 0) where
     pub found-del : (f : Faults) → starts (ascii "del") s ≡ true → f ≡ noFault → Found Del 3 f ≡ proteinEditAnswer k (wordedAt s)
@@ -94,7 +95,7 @@ module _ (k : ℕ) (s : List ℕ) (m : ℕ) (em : m ≡ residuesBehind (ascii "d
       pub found-ins : (p : Span) (f : Faults) → (j ≡ 0 → ⊥) → p ≡ span (k + 3) j → f ≡ noFault → Found (Ins p) (3 + j) f ≡ proteinEditAnswer k (wordedAt s)
       unfolding wordedAt
       found-ins p f n ep ef =
-          rw (inserted-none (ascii "delins") s m em z, h, inserted-some (ascii "ins") s j ej n) (inserted-found (ascii "ins") s j ej k ins Ins (λ rs. refl) (λ rs. refl) (λ rs. refl) p f n ep ef)
+          rw (inserted-none (ascii "delins") s m em z, h, inserted-some (ascii "ins") s j ej n) (inserted-found (ascii "ins") s j ej k ins Ins (λ rs. refl) (λ rs. refl) (λ rs. refl) (λ rs. refl) p f n ep ef)
 
       module _ (y : j ≡ 0) where
         pub found-dup : (f : Faults) → starts (ascii "dup") s ≡ true → f ≡ noFault → Found Dup 3 f ≡ proteinEditAnswer k (wordedAt s)
@@ -147,7 +148,7 @@ module _ (k : ℕ) (s : List ℕ) (n : ℕ) (en : n ≡ residueLen s) where
     found-equal f h ef = rw (parse-is, test (ascii "fs") false nf, test (ascii "ext") false nx, h) (found k equal Ident 1 f refl refl refl ef)
 
     module _ (ne : starts (ascii "=") s ≡ false) where
-      pub found-unknown : (p : Span) (f : Faults) → starts (ascii "?") s ≡ true → p ≡ span k 1 → f ≡ noFault → Found (Subst p) 1 f ≡ proteinEditAnswer k (parse s)
+      pub found-unknown : (p : Span) (f : Faults) → starts (ascii "?") s ≡ true → p ≡ span k 1 → f ≡ notSettled → Found (Subst p) 1 f ≡ proteinEditAnswer k (parse s)
       unfolding parseWith
       found-unknown p f h ep ef =
           rw (parse-is, test (ascii "fs") false nf, test (ascii "ext") false nx, ne, h) (found k substUnknown (Subst p) 1 f (ap Subst ep) refl refl ef)

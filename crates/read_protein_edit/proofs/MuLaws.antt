@@ -19,7 +19,9 @@ use Rattle.grammar.specs.Records.{proteinEditAt, muProteinEditAt}
 use Rattle.grammar.specs.Numbers.{proteinEditNumbers, muNumbers}
 use Rattle.lang.specs.MuLang.{parseMu}
 use Rattle.lang.specs.MuReading as Reading
+use Rattle.lang.specs.MuCanon.{settledMu}
 use Rattle.scan.specs.Faults.{faults}
+use Rattle.protein_edits.specs.Settled.{settledProteinEdit}
 use Rattle.scan.specs.declared.Faults.{Faults}
 use Rattle.protein_edits.specs.Parse.{parse}
 use Rattle.protein_edits.specs.Instance.{proteinEditLang}
@@ -39,7 +41,7 @@ module _ (k : ℕ) (s : List ℕ) (a : ℕ) (ea : a ≡ opening s) where
   nothing e = rw e
 
   found : (t : Mu ProteinEdit) (r : MuProteinEdit) (n : ℕ) (f : Faults) → parseMu proteinEditLang s ≡ some t → r ≡ muProteinEditAt k t → n ≡ length (printMu printProteinEdit t)
-      → f ≡ faults (muNumbers proteinEditNumbers k t) → Answered (Mus.Found r n f)
+      → f ≡ faults (muNumbers proteinEditNumbers k t) (settledMu settledProteinEdit t) → Answered (Mus.Found r n f)
   unfolding muProteinEditAnswer
   found t r n f e er en ef = rw (e, er, en, ef)
 
@@ -59,7 +61,7 @@ module _ (k : ℕ) (s : List ℕ) (a : ℕ) (ea : a ≡ opening s) where
         found (certain (inner .tree)) (Certain r) n f (Reading.mu-bare proteinEditLang s a ea (inner .tree) n (inner .parsed) (inner .long) z)
         (ap Certain (inner .means ∙ ap (λ (i : ℕ). proteinEditAt i (inner .tree)) place))
         (inner .long)
-        (inner .wrong ∙ ap (λ (i : ℕ). faults (proteinEditNumbers i (inner .tree))) place)
+        (inner .wrong ∙ ap (λ (i : ℕ). faults (proteinEditNumbers i (inner .tree)) (settledProteinEdit (inner .tree))) place)
 
     pub mu-room : starts (ascii ")") (tail (a + n) s) ≡ true → a + n + 1 ≤ length s
     mu-room q = Reading.mu-room proteinEditLang s a ea (inner .tree) n (inner .parsed) (inner .long) (rw (tail-part (a + n) s) at q)
@@ -72,7 +74,7 @@ module _ (k : ℕ) (s : List ℕ) (a : ℕ) (ea : a ≡ opening s) where
           (Reading.mu-shut proteinEditLang s a ea (inner .tree) n (inner .parsed) (inner .long) z (rw (tail-part (a + n) s) at q))
           (ap Uncertain (inner .means ∙ ap (λ (i : ℕ). proteinEditAt i (inner .tree)) place))
           (Reading.mu-length proteinEditLang s a ea (inner .tree) n (inner .parsed) (inner .long) z)
-          (inner .wrong ∙ ap (λ (i : ℕ). faults (proteinEditNumbers i (inner .tree))) place)
+          (inner .wrong ∙ ap (λ (i : ℕ). faults (proteinEditNumbers i (inner .tree)) (settledProteinEdit (inner .tree))) place)
 
       pub mu-left : starts (ascii ")") (tail (a + n) s) ≡ false → Answered Mus.Nothing
       mu-left q = nothing (Reading.mu-left proteinEditLang s a ea (inner .tree) n (inner .parsed) (inner .long) z (rw (tail-part (a + n) s) at q))

@@ -1,7 +1,7 @@
 -- What the routines give for what was found: the record with its spans, how long the text is, and what is wrong with its numbers.
 use Prim.Native.Nat.{ℕ, _+_}
 use mathlib.Core.Option.{Option, none, some}
-use mathlib.Core.Bool.{cond}
+use mathlib.Core.Bool.{true, cond}
 use mathlib.Core.List.{[]}
 use lib.Dec.{eqb}
 use lib.ListN.{length}
@@ -13,7 +13,9 @@ use Rattle.grammar.specs.Numbers.{lengthNumbers, stopNumbers, fsNumbers, extNum
 use Rattle.record.specs.declared.spans.Part.{Part}
 use Rattle.record.specs.declared.spans.Part.the-variants.{Absent, Present}
 use Rattle.record.specs.declared.edits.UncertainLengthChange.the-variants.{None}
+use Rattle.lang.specs.MuCanon.{settledMu}
 use Rattle.scan.specs.Faults.{faults}
+use Rattle.protein_edits.specs.Settled.{settledExtEnd, settledProteinEdit}
 use Rattle.read_protein_edit.specs.declared.ProteinEditRead.{ProteinEditRead}
 use Rattle.read_protein_edit.specs.declared.ProteinEditRead.the-variants.{Nothing, Found}
 use Rattle.read_protein_edit.specs.declared.MuProteinEditRead.{MuProteinEditRead}
@@ -23,11 +25,11 @@ use Rattle.read_protein_edit.specs.declared.StopRead.{StopRead}
 
 unfoldable pub proteinEditAnswer : ℕ → Option ProteinEdit → ProteinEditRead
 proteinEditAnswer k none = Nothing
-proteinEditAnswer k (some t) = Found (proteinEditAt k t) (length (printProteinEdit t)) (faults (proteinEditNumbers k t))
+proteinEditAnswer k (some t) = Found (proteinEditAt k t) (length (printProteinEdit t)) (faults (proteinEditNumbers k t) (settledProteinEdit t))
 
 unfoldable pub muProteinEditAnswer : ℕ → Option (Mu ProteinEdit) → MuProteinEditRead
 muProteinEditAnswer k none = Mus.Nothing
-muProteinEditAnswer k (some t) = Mus.Found (muProteinEditAt k t) (length (printMu printProteinEdit t)) (faults (muNumbers proteinEditNumbers k t))
+muProteinEditAnswer k (some t) = Mus.Found (muProteinEditAt k t) (length (printMu printProteinEdit t)) (faults (muNumbers proteinEditNumbers k t) (settledMu settledProteinEdit t))
 
 -- ---- behind `fs` and `ext`
 unfoldable pub terminalLen : Option Terminal → ℕ
@@ -35,22 +37,22 @@ terminalLen none = 0
 terminalLen (some t) = length (printTerminal t)
 
 unfoldable pub lengthRead : ℕ → Length → LengthRead
-lengthRead k n = record { change = lengthOf n; len = length (printLength n); faults = faults (lengthNumbers k n) }
+lengthRead k n = record { change = lengthOf n; len = length (printLength n); faults = faults (lengthNumbers k n) true }
 
 unfoldable pub stopRead : ℕ → Option Stop → StopRead
-stopRead k none = record { terminal = Absent; change = None; len = 0; faults = faults [] }
+stopRead k none = record { terminal = Absent; change = None; len = 0; faults = faults [] true }
 stopRead k (some (stop t n)) =
-    record { terminal = Present (spanOf k (printTerminal t)); change = lengthOf n; len = length (printStop (stop t n)); faults = faults (stopNumbers k (stop t n)) }
+    record { terminal = Present (spanOf k (printTerminal t)); change = lengthOf n; len = length (printStop (stop t n)); faults = faults (stopNumbers k (stop t n)) true }
 
 -- ---- an edit at k: a residue of n bytes, then a word, then its end
 unfoldable pub residuePart : ℕ → ℕ → Part
 residuePart k n = cond (eqb n 0) Absent (Present (span k n))
 
 unfoldable pub fsRead : ℕ → ℕ → Option Stop → ProteinEditRead
-fsRead k n e = Found (fsAt (residuePart k n) (k + n) e) (n + 2 + length (printFsEnd e)) (faults (fsNumbers (k + n + 2) e))
+fsRead k n e = Found (fsAt (residuePart k n) (k + n) e) (n + 2 + length (printFsEnd e)) (faults (fsNumbers (k + n + 2) e) true)
 
 unfoldable pub extRead : ℕ → ℕ → ExtEnd → ProteinEditRead
-extRead k n e = Found (extAt (residuePart k n) (k + n) e) (n + 3 + length (printExtEnd e)) (faults (extNumbers (k + n + 3) e))
+extRead k n e = Found (extAt (residuePart k n) (k + n) e) (n + 3 + length (printExtEnd e)) (faults (extNumbers (k + n + 3) e) (settledExtEnd e))
 
 unfoldable pub earlierRead : ℕ → ℕ → Option ExtEnd → ProteinEditRead
 earlierRead k n none = Nothing

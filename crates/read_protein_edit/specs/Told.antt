@@ -13,7 +13,9 @@ use Rattle.grammar.specs.Records.{proteinEditAt, muProteinEditAt}
 use Rattle.grammar.specs.Numbers.{proteinEditNumbers, muNumbers}
 use Rattle.lang.specs.Answer.{by-answer}
 use Rattle.scan.specs.declared.Faults.{Faults}
+use Rattle.lang.specs.MuCanon.{settledMu}
 use Rattle.scan.specs.Faults.{faults}
+use Rattle.protein_edits.specs.Settled.{settledProteinEdit}
 use Rattle.protein_edits.specs.Parse.{parse}
 use Rattle.protein_edits.specs.Instance.{muProteinEditLang}
 use Rattle.read_protein_edit.specs.declared.ProteinEditRead.the-variants as Edits
@@ -25,14 +27,14 @@ pub record EditTold (at : ℕ) (s : List ℕ) (e : Declared.ProteinEdit) (n : �
   pub parsed : parse s ≡ some tree
   pub means : e ≡ proteinEditAt at tree
   pub long : n ≡ length (printProteinEdit tree)
-  pub wrong : f ≡ faults (proteinEditNumbers at tree)
+  pub wrong : f ≡ faults (proteinEditNumbers at tree) (settledProteinEdit tree)
 
 pub record MuTold (at : ℕ) (s : List ℕ) (e : MuProteinEdit) (n : ℕ) (f : Faults) : Type 0 where
   pub tree : Mu ProteinEdit
   pub parsed : muProteinEditLang .parse s ≡ some tree
   pub means : e ≡ muProteinEditAt at tree
   pub long : n ≡ length (printMu printProteinEdit tree)
-  pub wrong : f ≡ faults (muNumbers proteinEditNumbers at tree)
+  pub wrong : f ≡ faults (muNumbers proteinEditNumbers at tree) (settledMu settledProteinEdit tree)
 
 module _ (at : ℕ) (s : List ℕ) where
   pub edit-told : (e : Declared.ProteinEdit) (n : ℕ) (f : Faults) → Edits.Found e n f ≡ proteinEditAnswer at (parse s) → EditTold at s e n f

@@ -155,7 +155,7 @@ fn ext_neg_shift(table: &[u8; 256], s: &[u8], at: usize, n: usize) -> ProteinEdi
             UncertainLengthChange::Known(d.value),
         ),
         n + 3 + m + 1 + d.len,
-        scan::faults_of(k + m + 1, d),
+        scan::settled_if(false, scan::faults_of(k + m + 1, d)),
     )
 }
 
@@ -245,7 +245,7 @@ pub fn protein_edit_at(table: &[u8; 256], s: &[u8], at: usize) -> ProteinEditRea
         return ProteinEditRead::Found(ProteinEdit::Ident, 1, scan::no_faults());
     }
     if scan::begins(s, b"?") {
-        return ProteinEditRead::Found(ProteinEdit::Subst(scan::span(at, 1)), 1, scan::no_faults());
+        return ProteinEditRead::Found(ProteinEdit::Subst(scan::span(at, 1)), 1, scan::unsettled());
     }
     if n != 0 {
         return ProteinEditRead::Found(ProteinEdit::Subst(scan::span(at, n)), n, scan::no_faults());

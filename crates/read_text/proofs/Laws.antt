@@ -31,6 +31,7 @@ use Rattle.bodies.specs.NaBodies.{naBodyLang}
 use Rattle.bodies.specs.ProteinBodies.{parseProteinBody}
 use Rattle.bodies.specs.BodyLang.{parseBody}
 use Rattle.bodies.specs.WholeText.{parseText}
+use Rattle.bodies.specs.Settled.{settledBody}
 use Rattle.scan.specs.declared.Faults.{Faults}
 use Rattle.scan.specs.Faults.{faults}
 use Rattle.read_header.specs.declared.HeaderRead.the-variants as HR
@@ -120,7 +121,7 @@ module _ (s : List ℕ) {h : Record.Header} {n : ℕ} (x : HeaderTold s h n) whe
     body-answer none b f e = absurd (let z : _≡_ {A = ℕ} 0 1 = cc in omega arith)
     body-answer (some t) b f e =
         let a : b ≡ bodyAt k (n + 3) t = cc in
-        let c : f ≡ faults (bodyNumbers k (n + 3) t) = cc in
+        let c : f ≡ faults (bodyNumbers k (n + 3) t) (settledBody k t) = cc in
         let m = x .means in
         let j : n + 3 ≡ 0 + length (printHeader (x .tree)) + length (printKind k) = omega (arith, x .long, kind-length k) in
         rw (a, c, m, j)

@@ -1,4 +1,4 @@
--- What the reader gives for the tree of a text: its record, and the faults of its numbers.
+-- What the reader gives for the tree of a text: its record, and its faults.
 use mathlib.Core.Option.{Option, none, some}
 use mathlib.Core.Bool.{Bool, true, false}
 use Rattle.record.specs.declared.variant.Kind.{Kind}
@@ -7,6 +7,7 @@ use Rattle.grammar.specs.Texts.{Text}
 use Rattle.grammar.specs.Records.{recordAt}
 use Rattle.grammar.specs.Numbers.{numbersAt}
 use Rattle.scan.specs.Faults.{faults}
+use Rattle.bodies.specs.Settled.{settledText}
 use Rattle.read_text.specs.declared.TextRead.{TextRead}
 use Rattle.read_text.specs.declared.TextRead.the-variants.{Nothing, Found}
 
@@ -20,4 +21,4 @@ isProtein Rna = false
 
 unfoldable pub textAnswer : Option Text → TextRead
 textAnswer none = Nothing
-textAnswer (some x) = Found (recordAt 0 x) (faults (numbersAt 0 x))
+textAnswer (some x) = Found (recordAt 0 x) (faults (numbersAt 0 x) (settledText x))

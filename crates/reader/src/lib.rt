@@ -1,24 +1,54 @@
 // Reading any bytes.
 use read_text::TextRead;
 use record::answers::ReadAnswer;
+ghost use mathlib.Core.Path.{_≡_};
 ghost use Rattle.grammar.specs.Texts.{allLetters};
+ghost use Rattle.na_edits.specs.Alphabet.{alphabets};
+ghost use Rattle.bodies.specs.Settled.{isSettled};
 ghost use Rattle.promise.specs.Outcome.{readOutcome};
 ghost use Rattle.promise.specs.Reading.{Reads};
+ghost use Rattle.reader.specs.Answer.{unsettled};
+
+// The answer for a text, and whether the text is settled: accepted, and shown by its spelling to be the shortest text of its record.
+pub struct Reading {
+    pub answer: ReadAnswer,
+    pub settled: bool,
+}
+
+fn refusal(answer: ReadAnswer) -> Reading
+    ensures { λ r. ⌜ r ≡ unsettled answer ⌝ }
+{
+    Reading {
+        answer,
+        settled: false,
+    }
+}
+
+// Any bytes, as `read`, and whether they are settled.
+pub fn reading_of(text: &[u8]) -> Reading
+    ensures { λ r. ⌜ Reads allLetters (now (text .entry)) (readOutcome (r .answer)) × (r .settled ≡ isSettled allLetters alphabets (now (text .entry))) ⌝ }
+{
+    if 4096 < text.len() {
+        return refusal(ReadAnswer::TooLong);
+    }
+    let table = alphabet::classes();
+    let TextRead::Found(v, faults) = read_text::hgvs_variant(&table, text) else {
+        return refusal(ReadAnswer::NotInGrammar);
+    };
+    let code = faults.code;
+    if 1 < code {
+        return refusal(ReadAnswer::DoesNotFit(code - 2));
+    }
+    Reading {
+        answer: ReadAnswer::Accepted(v),
+        settled: code == 0,
+    }
+}
 
 // Any bytes: the record, or the refusal's number and place.
 pub fn read(text: &[u8]) -> ReadAnswer
     ensures { λ r. ⌜ Reads allLetters (now (text .entry)) (readOutcome r) ⌝ }
 {
-    if 4096 < text.len() {
-        return ReadAnswer::TooLong;
-    }
-    let table = alphabet::classes();
-    let TextRead::Found(v, faults) = read_text::hgvs_variant(&table, text) else {
-        return ReadAnswer::NotInGrammar;
-    };
-    let unfit = faults.unfit;
-    if unfit == 0 {
-        return ReadAnswer::Accepted(v);
-    }
-    ReadAnswer::DoesNotFit(unfit - 1)
+    let r = reading_of(text);
+    r.answer
 }

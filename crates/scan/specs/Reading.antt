@@ -2,6 +2,7 @@
 use Prim.Native.Nat.{ℕ, _≤_}
 use mathlib.Core.Path.{_≡_, sym, _∙_}
 use mathlib.Core.List.{List, [], _∷_}
+use mathlib.Core.Bool.{true}
 use native.Mathlib.Omega.{arith}
 use mir.Syntax.{w32}
 use mir.Val.{toZ, ofZ}
@@ -15,7 +16,7 @@ use Rattle.number.specs.declared.Sign.{Sign}
 use Rattle.number.specs.declared.Number.{Number}
 use Rattle.grammar.specs.Meaning.{number}
 use Rattle.grammar.specs.Numbers.{Numeral.numeral}
-use Rattle.scan.specs.Faults.{faults, unfitUnless, faults-one}
+use Rattle.scan.specs.Faults.{faults, ofNumber, faults-one}
 
 module _ (sign : Sign) (s : List ℕ) (n : Number) (e : n ≡ numberAt sign s) where
   pub number-run : n .len ≡ run digit s
@@ -33,6 +34,6 @@ module _ (sign : Sign) (s : List ℕ) (n : Number) (e : n ≡ numberAt sign s) w
   unfolding numberAt numberOf
   number-value = rw e (saturated-held sign (val (front digit s)))
 
-  pub number-faults : (k : ℕ) → unfitUnless (n .fits) k ≡ faults (numeral k sign (front digit s) ∷ [])
+  pub number-faults : (k : ℕ) → ofNumber (n .fits) (n .plain) k ≡ faults (numeral k sign (front digit s) ∷ []) true
   unfolding numberAt numberOf
-  number-faults k = rw (e, faults-one k sign (front digit s))
+  number-faults k = rw (e, faults-one k sign (front digit s), front-length digit s)

@@ -6,11 +6,11 @@ ghost use Prim.Native.Nat.{_+_, _≤_, _<_, _^_};
 ghost use Rattle.texts.specs.Words.{starts};
 ghost use Rattle.texts.specs.Brackets.{opening as openingOf};
 ghost use Rattle.grammar.specs.Records.{span as spanFrom};
-ghost use Rattle.scan.specs.Faults.{none as noFault, unfitUnless, first};
+ghost use Rattle.scan.specs.Faults.{none as noFault, notSettled, ofNumber, first, settledIf};
 
-// The leftmost place of each kind of fault, and 1 more; 0 where there is none. A number is handed on in a register, an enum is not.
+// What is to be said of a part: 0 where its text is settled, which is to say the shortest of its record; 1 where it may not be; and the leftmost place of a number that does not fit, and 2 more. A number is handed on in a register, an enum is not.
 pub struct Faults {
-    pub unfit: usize,
+    pub code: usize,
 }
 
 // The word is the first bytes of s.
@@ -54,27 +54,49 @@ pub fn span(at: usize, n: usize) -> Span
 pub fn no_faults() -> Faults
     ensures { λ r. ⌜ r ≡ noFault ⌝ }
 {
-    Faults { unfit: 0 }
+    Faults { code: 0 }
+}
+
+// Of a part that may not be settled, with nothing wrong.
+pub fn unsettled() -> Faults
+    ensures { λ r. ⌜ r ≡ notSettled ⌝ }
+{
+    Faults { code: 1 }
 }
 
 // What is wrong with a number whose first digit stands at `at`.
 pub fn faults_of(at: usize, n: Number) -> Faults
     requires { ⌜ at ≤ 4096 ⌝ }
-    ensures { λ r. ⌜ r ≡ unfitUnless (n .fits) at ⌝ }
+    ensures { λ r. ⌜ r ≡ ofNumber (n .fits) (n .plain) at ⌝ }
 {
-    if n.fits {
-        no_faults()
-    } else {
-        Faults { unfit: at + 1 }
+    if !n.fits {
+        return Faults { code: at + 2 };
     }
+    if n.plain {
+        return no_faults();
+    }
+    unsettled()
 }
 
 // The faults of two parts, one behind the other.
 pub fn leftmost(a: Faults, b: Faults) -> Faults
     ensures { λ r. ⌜ r ≡ first a b ⌝ }
 {
-    if a.unfit == 0 {
-        return b;
+    if 1 < a.code {
+        return a;
     }
-    a
+    if b.code == 0 {
+        return a;
+    }
+    b
+}
+
+// The faults of a part that is settled only where a test holds.
+pub fn settled_if(test: bool, a: Faults) -> Faults
+    ensures { λ r. ⌜ r ≡ settledIf test a ⌝ }
+{
+    if test {
+        return a;
+    }
+    leftmost(unsettled(), a)
 }

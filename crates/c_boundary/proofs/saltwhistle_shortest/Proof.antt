@@ -3,14 +3,17 @@ use borrow.Author.Needs.{needs}
 use Rattle.c_boundary.proofs.saltwhistle_shortest.Statement.{statement}
 use Rattle.c_boundary.proofs.saltwhistle_shortest.Tie as tie
 
-read-requires : tie.Need-read-requires
-read-requires c κs = search needs
+reading-of-requires : tie.Need-reading-of-requires
+reading-of-requires c κs = search needs
 
-enum-known-v : tie.Need-enum-known-v
-enum-known-v c = search needs
+enum-known-answer : tie.Need-enum-known-answer
+enum-known-answer c = search needs
 
-write-requires : tie.Need-write-requires
-write-requires c κs = search needs
+rewrite-requires : tie.Need-rewrite-requires
+rewrite-requires c κs =
+    let a = c .before .before in
+    let r = a .before .before .reading-of .ensures in
+    (rw (a .answer .given .1) at (r .0), r .1)
 
 of-write-requires : tie.Need-of-write-requires
 of-write-requires c κs = search needs
@@ -27,8 +30,8 @@ enum-told-2 c = search needs
 bare-requires-2 : tie.Need-bare-requires-2
 bare-requires-2 c κs = search needs
 
-enum-known-place : tie.Need-enum-known-place
-enum-known-place c = search needs
+enum-known-answer-2 : tie.Need-enum-known-answer-2
+enum-known-answer-2 c = search needs
 
 bare-requires-3 : tie.Need-bare-requires-3
 bare-requires-3 c κs = search needs
@@ -37,30 +40,30 @@ same-length : tie.Need-same-length
 same-length c = search needs
 
 returns : tie.Need-returns
-returns c = rw (c .of-write .ensures) (Rewrites.written _ (rw (c .before .before .before .before .before .before .v .given .1) at (c .before .before .before .before .before .before .before .before .read .ensures)) _ _ (c .before .before .before .write .ensures))
+returns c = rw (c .of-write .ensures) (Rewrites.written _ (rw (c .before .before .before .before .before .before .answer .given .1) at (c .before .before .before .before .before .before .before .before .reading-of .ensures .0)) _ _ (c .before .before .before .rewrite .ensures))
 
 returns-2 : tie.Need-returns-2
-returns-2 c = rw (c .bare .ensures) (Rewrites.unread 1 0 (rw (c .before .enum-told .given .1) at (c .before .before .before .read .ensures)))
+returns-2 c = rw (c .bare .ensures) (Rewrites.unread 1 0 (rw (c .before .enum-told .given .1) at (c .before .before .before .reading-of .ensures .0)))
 
 returns-3 : tie.Need-returns-3
-returns-3 c = rw (c .bare2 .ensures) (Rewrites.unread 2 0 (rw (c .before .enum-told2 .given .1) at (c .before .before .before .read .ensures)))
+returns-3 c = rw (c .bare2 .ensures) (Rewrites.unread 2 0 (rw (c .before .enum-told2 .given .1) at (c .before .before .before .reading-of .ensures .0)))
 
 returns-4 : tie.Need-returns-4
-returns-4 c = rw (c .bare3 .ensures) (Rewrites.unread 3 _ (rw (c .before .before .place .given .1) at (c .before .before .before .before .read .ensures)))
+returns-4 c = rw (c .bare3 .ensures) (Rewrites.unread 3 _ (rw (c .before .before .answer2 .given .1) at (c .before .before .before .before .reading-of .ensures .0)))
 
 pub saltwhistle-shortest-spec : {M : Type 1} → statement M
 saltwhistle-shortest-spec =
     tie.close
     (tie.spec
-    read-requires
-    enum-known-v
-    write-requires
+    reading-of-requires
+    enum-known-answer
+    rewrite-requires
     of-write-requires
     enum-told
     bare-requires
     enum-told-2
     bare-requires-2
-    enum-known-place
+    enum-known-answer-2
     bare-requires-3
     same-length
     returns

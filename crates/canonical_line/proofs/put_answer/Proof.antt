@@ -9,21 +9,21 @@ use borrow.Author.Needs.{needs}
 use Rattle.canonical_line.proofs.put_answer.Statement.{statement}
 use Rattle.canonical_line.proofs.put_answer.Tie as tie
 
-abbrev start : tie.After-read → tie.Start
+abbrev start : tie.After-reading-of → tie.Start
 start c = c .before .before .before .before
 
 -- what was read, in each case
-accepted : (c : tie.After-v) → Reads allLetters (start (c .before .before) .args .line .now) (given (c .v .given .0 .0))
-accepted c = rw (c .v .given .1) at (c .before .before .read .ensures)
+accepted : (c : tie.After-answer) → Reads allLetters (start (c .before .before) .args .line .now) (given (c .answer .given .0 .0))
+accepted c = rw (c .answer .given .1) at (c .before .before .reading-of .ensures .0)
 
 too-long : (c : tie.After-enum-told) → Reads allLetters (start (c .before .before) .args .line .now) (refused 1 0)
-too-long c = rw (c .enum-told .given .1) at (c .before .before .read .ensures)
+too-long c = rw (c .enum-told .given .1) at (c .before .before .reading-of .ensures .0)
 
 not-in-grammar : (c : tie.After-enum-told2) → Reads allLetters (start (c .before .before) .args .line .now) (refused 2 0)
-not-in-grammar c = rw (c .enum-told2 .given .1) at (c .before .before .read .ensures)
+not-in-grammar c = rw (c .enum-told2 .given .1) at (c .before .before .reading-of .ensures .0)
 
-does-not-fit : (c : tie.After-place) → Reads allLetters (start (c .before .before) .args .line .now) (refused 3 (c .place .given .0 .0))
-does-not-fit c = rw (c .place .given .1) at (c .before .before .read .ensures)
+does-not-fit : (c : tie.After-answer2) → Reads allLetters (start (c .before .before) .args .line .now) (refused 3 (c .answer2 .given .0 .0))
+does-not-fit c = rw (c .answer2 .given .1) at (c .before .before .reading-of .ensures .0)
 
 put-refusal-requires : tie.Need-put-refusal-requires
 put-refusal-requires c κs = omega (arith, refusal-short 1 0 (omega arith) (omega arith))
@@ -38,14 +38,14 @@ returns c =
     let a = t .before .before .before .args in
     rw (long-answer (a .line .now) (a .long) (t .if1 .taken)) (p .put-refusal .ensures)
 
-read-requires : tie.Need-read-requires
-read-requires c κs = search needs
+reading-of-requires : tie.Need-reading-of-requires
+reading-of-requires c κs = search needs
 
-enum-known-v : tie.Need-enum-known-v
-enum-known-v c = search needs
+enum-known-answer : tie.Need-enum-known-answer
+enum-known-answer c = search needs
 
 put-text-requires : tie.Need-put-text-requires
-put-text-requires c κs = (accepted (c .before .before), search needs)
+put-text-requires c κs = (accepted (c .before .before), c .before .before .before .before .reading-of .ensures .1, search needs)
 
 enum-told : tie.Need-enum-told
 enum-told c = search needs
@@ -59,8 +59,8 @@ enum-told-2 c = search needs
 put-refusal-requires-3 : tie.Need-put-refusal-requires-3
 put-refusal-requires-3 c κs = omega (arith, refusal-short 2 0 (omega arith) (omega arith))
 
-enum-known-place : tie.Need-enum-known-place
-enum-known-place c = search needs
+enum-known-answer-2 : tie.Need-enum-known-answer-2
+enum-known-answer-2 c = search needs
 
 cast-put-refusal : tie.Need-cast-put-refusal
 cast-put-refusal c = let p = c .before .before in omega (arith, refused-small _ 3 _ (does-not-fit p) .1)
@@ -68,7 +68,7 @@ cast-put-refusal c = let p = c .before .before in omega (arith, refused-small _ 
 put-refusal-requires-4 : tie.Need-put-refusal-requires-4
 put-refusal-requires-4 c κs =
     let p = c .before .before in
-    omega (arith, refusal-short 3 (p .place .given .0 .0) (omega arith) (refused-small _ 3 _ (does-not-fit p) .1))
+    omega (arith, refusal-short 3 (p .answer2 .given .0 .0) (omega arith) (refused-small _ 3 _ (does-not-fit p) .1))
 
 same-length-2 : tie.Need-same-length-2
 same-length-2 c = search needs
@@ -111,7 +111,7 @@ returns-5 c =
     let t = p .before .before .before in
     let r = t .before .before in
     let a = start r .args in
-    rw (number-answer (a .line .now) (a .long) (r .before .if1 .left) 3 (t .place .given .0 .0) (does-not-fit t)) (p .put-refusal4 .ensures)
+    rw (number-answer (a .line .now) (a .long) (r .before .if1 .left) 3 (t .answer2 .given .0 .0) (does-not-fit t)) (p .put-refusal4 .ensures)
 
 pub put-answer-spec : {M : Type 1} → statement M
 put-answer-spec =
@@ -120,14 +120,14 @@ put-answer-spec =
     put-refusal-requires
     same-length
     returns
-    read-requires
-    enum-known-v
+    reading-of-requires
+    enum-known-answer
     put-text-requires
     enum-told
     put-refusal-requires-2
     enum-told-2
     put-refusal-requires-3
-    enum-known-place
+    enum-known-answer-2
     cast-put-refusal
     put-refusal-requires-4
     same-length-2

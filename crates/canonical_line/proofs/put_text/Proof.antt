@@ -10,20 +10,20 @@ use borrow.Author.Needs.{needs}
 use Rattle.canonical_line.proofs.put_text.Statement.{statement}
 use Rattle.canonical_line.proofs.put_text.Tie as tie
 
-abbrev start : tie.After-write → tie.Start
+abbrev start : tie.After-rewrite → tie.Start
 start c = c .before .before .before .before
 
-sub-write : tie.Need-sub-write
-sub-write c = search needs
+sub-rewrite : tie.Need-sub-rewrite
+sub-rewrite c = search needs
 
-part-write-start : tie.Need-part-write-start
-part-write-start c = search needs
+part-rewrite-start : tie.Need-part-rewrite-start
+part-rewrite-start c = search needs
 
-part-write-end : tie.Need-part-write-end
-part-write-end c = search needs
+part-rewrite-end : tie.Need-part-rewrite-end
+part-rewrite-end c = search needs
 
-write-requires : tie.Need-write-requires
-write-requires c κs = search needs
+rewrite-requires : tie.Need-rewrite-requires
+rewrite-requires c κs = search needs
 
 length-given-requires : tie.Need-length-given-requires
 length-given-requires c κs = search needs
@@ -33,7 +33,7 @@ long : (c : tie.After-length-given) → c .length-given .result ≡ length (line
 long c =
     let p = c .before .before .before in
     let s = start p in
-    c .length-given .ensures ∙ text-length (s .args .line .now) (s .args .v) (s .pre .0) (s .args .out .now) (s .args .at) (s .pre .1) (p .write .ensures)
+    c .length-given .ensures ∙ text-length (s .args .line .now) (s .args .v) (s .pre .0) (s .args .out .now) (s .args .at) (s .pre .2) (p .rewrite .ensures)
 
 add-result : tie.Need-add-result
 add-result c = let s = start (c .before .before .before) in record { fits = omega (arith, long c, answer-short (whole (s .args .line .now))) }
@@ -45,16 +45,16 @@ returns : tie.Need-returns
 returns c =
     let p = c .before .before .before in
     let s = start p in
-    (omega (arith, long c), text-put (s .args .line .now) (s .args .v) (s .pre .0) (s .args .out .now) (s .args .at) (s .pre .1) (p .write .ensures))
+    (omega (arith, long c), text-put (s .args .line .now) (s .args .v) (s .pre .0) (s .args .out .now) (s .args .at) (s .pre .2) (p .rewrite .ensures))
 
 pub put-text-spec : {M : Type 1} → statement M
 put-text-spec =
     tie.close
     (tie.spec
-    sub-write
-    part-write-start
-    part-write-end
-    write-requires
+    sub-rewrite
+    part-rewrite-start
+    part-rewrite-end
+    rewrite-requires
     length-given-requires
     add-result
     same-length

@@ -17,15 +17,18 @@ use Rattle.number.proofs.number_at.Statement.{statement}
 use Rattle.number.proofs.number_at.Tie as tie
 
 abbrev Inv-loop : tie.InvT-loop
-Inv-loop table s sign v₀ i₀ v i = (i ≤ length s) × (run digit s ≡ i + run digit (drop i s)) × (v ≡ min (val (take i s)) tooLarge)
+Inv-loop table s sign zero v₀ i₀ v i = (i ≤ length s) × (run digit s ≡ i + run digit (drop i s)) × (v ≡ min (val (take i s)) tooLarge)
 
 abbrev μ-loop : tie.MeasureT-loop
-μ-loop table s sign v₀ i₀ v i = length s - i
+μ-loop table s sign zero v₀ i₀ v i = length s - i
 
 -- the byte that was read is a digit
-is-digit : (c : tie.Else1 Inv-loop μ-loop) → digit (getD (c .before .before .before .before .before .before .args .s .now) (c .before .before .before .before .loop .i) 0) ≡ true
+is-digit : (c : tie.Else1 Inv-loop μ-loop) → digit (getD (c .before .before .before .before .before .before .before .args .s .now) (c .before .before .before .before .loop .i) 0) ≡ true
 unfolding member
 is-digit c = sym (c .before .is-in .ensures) ∙ not-false (c .before .is-in .result) (c .if1 .left)
+
+begins-with-zero-requires : tie.Need-begins-with-zero-requires Inv-loop μ-loop
+begins-with-zero-requires c κs = search needs
 
 loop-holds : tie.Need-loop-holds Inv-loop μ-loop
 unfolding valFrom
@@ -45,9 +48,9 @@ unfolding member
 returns c =
     let d = c .before .before in
     let l = d .before .before .before in
-    let s = l .before .before .args .s .now in
+    let s = l .before .before .before .args .s .now in
     let e : digit (getD s (l .loop .i) 0) ≡ false = sym (d .is-in .ensures) ∙ not-true (d .is-in .result) (c .before .if1 .taken) in
-    c .number-of .ensures ∙ value-all (l .before .before .args .sign) s (l .loop .i) (l .loop .v) (l .loop .inv .1 ∙ run-stop digit s (l .loop .i) (d .before .before .loop-test .taken) e) (l .loop .inv .2)
+    c .number-of .ensures ∙ value-all (l .before .before .before .args .sign) s (l .loop .i) (l .loop .v) _ (l .loop .inv .1 ∙ run-stop digit s (l .loop .i) (d .before .before .loop-test .taken) e) (l .loop .inv .2) (l .before .begins-with-zero .ensures)
 
 mul-capped : tie.Need-mul-capped Inv-loop μ-loop
 mul-capped c = omega arith
@@ -73,7 +76,7 @@ loop-less c = omega arith
 loop-again : tie.Need-loop-again Inv-loop μ-loop
 loop-again c =
     let l = c .before .before .before .before .before in
-    let s = l .before .before .args .s .now in
+    let s = l .before .before .before .args .s .now in
     let h = c .before .before .before .before .loop-test .taken in
     (omega arith, l .loop .inv .1 ∙ run-more digit s (l .loop .i) h (is-digit (c .before)), c .capped .ensures ∙ value-more s (l .loop .i) (l .loop .v) h (l .loop .inv .2))
 
@@ -83,8 +86,8 @@ number-of-requires-2 c κs = search needs
 returns-2 : tie.Need-returns-2 Inv-loop μ-loop
 returns-2 c =
     let l = c .before .before in
-    let a = l .before .before .args in
-    c .number-of2 .ensures ∙ value-all (a .sign) (a .s .now) (l .loop .i) (l .loop .v) (l .loop .inv .1 ∙ run-end digit (a .s .now) (l .loop .i) (c .before .loop-test .left)) (l .loop .inv .2)
+    let a = l .before .before .before .args in
+    c .number-of2 .ensures ∙ value-all (a .sign) (a .s .now) (l .loop .i) (l .loop .v) _ (l .loop .inv .1 ∙ run-end digit (a .s .now) (l .loop .i) (c .before .loop-test .left)) (l .loop .inv .2) (l .before .begins-with-zero .ensures)
 
 pub number-at-spec : {M : Type 1} → statement M
 number-at-spec =
@@ -92,6 +95,7 @@ number-at-spec =
     (tie.spec
     Inv-loop
     μ-loop
+    begins-with-zero-requires
     loop-holds
     shared-slice-read-b
     is-in-requires

@@ -91,8 +91,14 @@ add-t16 c = omega (arith, end-le (first (c .before .before .before .before .befo
 leftmost-requires : tie.Need-leftmost-requires
 leftmost-requires c κs = search needs
 
+settled-if-requires : tie.Need-settled-if-requires
+settled-if-requires c κs = search needs
+
 returns-4 : tie.Need-returns-4
-returns-4 c = interval-two (first (c .before .before .before .before .before .before .before .before .before .before .before)) (bar (c .before .before .before .before .before .before)) (second (c .before .before)) _ (c .leftmost .ensures)
+returns-4 c =
+    let e = c .before .before .before .before .before .before in
+    let b = e .before .before .before .before .before in
+    interval-two (first (b .before .before .before .before .before)) (bar b) (second (e .before)) _ _ (c .before .leftmost .ensures) (c .settled-if .ensures)
 
 pub interval-at-spec : {M : Type 1} → statement M
 interval-at-spec =
@@ -119,4 +125,5 @@ interval-at-spec =
     returns-3
     add-t16
     leftmost-requires
+    settled-if-requires
     returns-4)

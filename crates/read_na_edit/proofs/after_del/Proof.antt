@@ -77,13 +77,17 @@ add-t22 c = omega (arith, m-le (c .before .before .before .before .before), b-le
 no-faults-requires : tie.Need-no-faults-requires
 no-faults-requires c κs = search needs
 
+settled-if-requires : tie.Need-settled-if-requires
+settled-if-requires c κs = search needs
+
 returns : tie.Need-returns
 returns c =
-    let i = c .before .before .before .before in
+    let z = c .before in
+    let i = z .before .before .before .before in
     let m = i .before .before in
     let s = m .before .before .args .s .now in
-    rw (del-ins nucleotide s (λ z. c .before .before .before .if1 .taken (b-is i ∙ z)))
-    (found-del-ins _ _ (c .no-faults .ensures) _ (front nucleotide s) _ (m-is m) (c .before .before .span .ensures) _ (inserted nucleotide (behind nucleotide s)) _ (b-is i) (c .before .span2 .ensures))
+    rw (del-ins nucleotide s (λ e. z .before .before .before .if1 .taken (b-is i ∙ e)))
+    (found-del-ins _ _ _ (z .no-faults .ensures) _ (front nucleotide s) _ (m-is m) (z .before .before .span .ensures) _ (inserted nucleotide (behind nucleotide s)) _ (b-is i) (z .before .span2 .ensures) (c .settled-if .ensures))
 
 number-at-requires : tie.Need-number-at-requires
 number-at-requires c κs = search needs
@@ -105,8 +109,8 @@ add-span-5 c = search needs
 span-requires-3 : tie.Need-span-requires-3
 span-requires-3 c κs = omega (arith, m-le (c .before .before .before .before .before .before))
 
-add-t27 : tie.Need-add-t27
-add-t27 c = omega (arith, m-le (c .before .before .before .before .before .before .before))
+add-t29 : tie.Need-add-t29
+add-t29 c = omega (arith, m-le (c .before .before .before .before .before .before .before))
 
 no-faults-requires-2 : tie.Need-no-faults-requires-2
 no-faults-requires-2 c κs = search needs
@@ -119,7 +123,7 @@ returns-3 c =
     let m = i .before .before in
     let s = m .before .before .args .s .now in
     rw (del-letters nucleotide s (sym (b-is i) ∙ n .before .if1 .left) (sym (number-len _ s _ (n .number-at .ensures)) ∙ e .if2 .left))
-    (found-word _ _ (c .no-faults2 .ensures) _ (front nucleotide s) _ (m-is m) (c .before .span3 .ensures) DelRef (del (front nucleotide s)) (ascii "del") refl refl refl refl)
+    (found-word _ _ (c .no-faults2 .ensures) _ (front nucleotide s) _ (m-is m) (c .before .span3 .ensures) DelRef (del (front nucleotide s)) (ascii "del") refl refl refl refl refl)
 
 pub after-del-spec : {M : Type 1} → statement M
 after-del-spec =
@@ -140,12 +144,13 @@ after-del-spec =
     add-t21
     add-t22
     no-faults-requires
+    settled-if-requires
     returns
     number-at-requires
     after-del-num-requires
     returns-2
     add-span-5
     span-requires-3
-    add-t27
+    add-t29
     no-faults-requires-2
     returns-3)

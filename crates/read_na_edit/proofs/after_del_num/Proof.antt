@@ -52,7 +52,7 @@ returns c =
     let a = f .before .before .before .before in
     let s = a .args .s .now in
     rw (del-num nucleotide (front digit s) (behind digit s) (sym (b-is (f .before)) ∙ c .before .if1 .taken))
-    (found-number s _ (a .pre .1) _ _ (f .faults-of .ensures) DelNum (delNum (front digit s)) (ascii "del") refl refl refl refl)
+    (found-number s _ (a .pre .1) _ _ (f .faults-of .ensures) DelNum (delNum (front digit s)) (ascii "del") refl refl refl refl refl)
 
 add-span : tie.Need-add-span
 add-span c = search needs

@@ -38,7 +38,7 @@ returns c =
     let n = t .before in
     let s = n .before .before .args .s .now in
     rw (inv-digits nucleotide s (λ z. t .if1 .taken (number-len _ s _ (n .number-at .ensures) ∙ z)))
-    (found-number s _ (n .number-at .ensures) _ _ (c .faults-of .ensures) InvNum (invNum (front digit s)) (ascii "inv") refl refl refl refl)
+    (found-number s _ (n .number-at .ensures) _ _ (c .faults-of .ensures) InvNum (invNum (front digit s)) (ascii "inv") refl refl refl refl refl)
 
 run-of-requires : tie.Need-run-of-requires
 run-of-requires c κs = search needs
@@ -62,7 +62,7 @@ returns-2 c =
     let n = m .before .before in
     let s = n .before .before .args .s .now in
     rw (inv-letters nucleotide s (sym (number-len _ s _ (n .number-at .ensures)) ∙ m .before .if1 .left))
-    (found-word _ _ (c .no-faults .ensures) _ (front nucleotide s) _ (m .run-of .ensures ∙ sym (front-length nucleotide s)) (c .before .span .ensures) InvRef (inv (front nucleotide s)) (ascii "inv") refl refl refl refl)
+    (found-word _ _ (c .no-faults .ensures) _ (front nucleotide s) _ (m .run-of .ensures ∙ sym (front-length nucleotide s)) (c .before .span .ensures) InvRef (inv (front nucleotide s)) (ascii "inv") refl refl refl refl refl)
 
 pub after-inv-spec : {M : Type 1} → statement M
 after-inv-spec =

@@ -66,7 +66,7 @@ returns c =
     let s = m .before .before .before .before .before .before .args .s .now in
     let x = take (length s - 3) (drop 3 s) in
     word-found _ (ascii "dup") (λ x. Tree.NaEdit.dup (front nucleotide x)) s refl (is-dup (m .before .before)) _
-    (found-word _ _ (c .no-faults .ensures) _ (front nucleotide x) _ (m .run-of .ensures ∙ sym (front-length nucleotide x)) (c .before .span .ensures) Dup (Tree.NaEdit.dup (front nucleotide x)) (ascii "dup") refl refl refl refl)
+    (found-word _ _ (c .no-faults .ensures) _ (front nucleotide x) _ (m .run-of .ensures ∙ sym (front-length nucleotide x)) (c .before .span .ensures) Dup (Tree.NaEdit.dup (front nucleotide x)) (ascii "dup") refl refl refl refl refl)
 
 returns-2 : tie.Need-returns-2
 unfolding parseDup

@@ -42,7 +42,7 @@ returns-2 c =
     let i = c .before .before .before in
     let s = i .before .before .args .s .now in
     rw (ins-some nucleotide s (λ z. c .before .before .if1 .left (i .inserted .ensures ∙ z)))
-    (found-word _ _ (c .no-faults .ensures) _ (inserted nucleotide s) _ (i .inserted .ensures) (c .before .span .ensures) Ins (Tree.NaEdit.ins (inserted nucleotide s)) (ascii "ins") refl refl refl refl)
+    (found-word _ _ (c .no-faults .ensures) _ (inserted nucleotide s) _ (i .inserted .ensures) (c .before .span .ensures) Ins (Tree.NaEdit.ins (inserted nucleotide s)) (ascii "ins") refl refl refl refl refl)
 
 pub ins-spec : {M : Type 1} → statement M
 ins-spec =

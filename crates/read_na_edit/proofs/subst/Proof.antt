@@ -71,20 +71,30 @@ add-span c = search needs
 span-requires-2 : tie.Need-span-requires-2
 span-requires-2 c κs = search needs
 
+shared-slice-read-settled-if : tie.Need-shared-slice-read-settled-if
+shared-slice-read-settled-if c = search needs
+
+shared-slice-read-settled-if-2 : tie.Need-shared-slice-read-settled-if-2
+shared-slice-read-settled-if-2 c = search needs
+
 no-faults-requires : tie.Need-no-faults-requires
 no-faults-requires c κs = search needs
+
+settled-if-requires : tie.Need-settled-if-requires
+settled-if-requires c κs = search needs
 
 returns-5 : tie.Need-returns-5
 unfolding member
 returns-5 c =
-    let h = c .before .before .before in
+    let b = c .before .before .before .before in
+    let h = b .before .before in
     let g = h .before .before .before in
     let d = g .before .before .before in
     let e = d .before .before in
     let s = e .before .before .args .s .now in
     let f : nucleotide (getD s 2 0) ≡ true = sym (h .before .is-in2 .ensures) ∙ not-false _ (h .if4 .left) in
     rw (subst-is nucleotide s (e .if1 .left), d .if2 .left, is-first g, f)
-    (found-swap _ _ (c .no-faults .ensures) (getD s 0 0) (getD s 2 0) _ _ (c .before .before .span .ensures) (c .before .span2 .ensures))
+    (found-swap _ _ _ (c .before .no-faults .ensures) (getD s 0 0) (getD s 2 0) _ _ (b .before .span .ensures) (b .span2 .ensures) (c .settled-if .ensures))
 
 pub subst-spec : {M : Type 1} → statement M
 subst-spec =
@@ -102,5 +112,8 @@ subst-spec =
     span-requires
     add-span
     span-requires-2
+    shared-slice-read-settled-if
+    shared-slice-read-settled-if-2
     no-faults-requires
+    settled-if-requires
     returns-5)

@@ -60,27 +60,35 @@ add-behind c = omega (arith, closed-le _ _ (ends (c .before .before .before .bef
 uncertain-requires : tie.Need-uncertain-requires
 uncertain-requires c κs = search needs
 
+settled-if-requires : tie.Need-settled-if-requires
+settled-if-requires c κs = search needs
+
 sub-after-location : tie.Need-sub-after-location
-sub-after-location c = closed-le _ _ (ends (c .before .before .before .before .before .before)) (shut (c .before))
+sub-after-location c = closed-le _ _ (ends (c .before .before .before .before .before .before .before)) (shut (c .before .before))
 
 part-after-location-start : tie.Need-part-after-location-start
-part-after-location-start c = closed-le _ _ (ends (c .before .before .before .before .before .before)) (shut (c .before))
+part-after-location-start c = closed-le _ _ (ends (c .before .before .before .before .before .before .before)) (shut (c .before .before))
 
 part-after-location-end : tie.Need-part-after-location-end
 part-after-location-end c = search needs
 
 add-after-location : tie.Need-add-after-location
-add-after-location c = omega (arith, closed-le _ _ (ends (c .before .before .before .before .before .before .before)) (shut (c .before .before)), c .before .before .before .before .before .before .before .before .before .before .before .pre .0)
+add-after-location c = omega (arith, closed-le _ _ (ends (c .before .before .before .before .before .before .before .before)) (shut (c .before .before .before)), c .before .before .before .before .before .before .before .before .before .before .before .before .pre .0)
 
 after-location-requires : tie.Need-after-location-requires
 after-location-requires c κs =
-    let s = c .before .before .before .before .before .before .before .before .before .before .before .args .s .now in
-    let h = closed-le _ _ (ends (c .before .before .before .before .before .before .before)) (shut (c .before .before)) in
-    let r = tail-room (c .before .before .before .before .before .before .before .before .before .before .before .args .at + 1) (c .before .before .before .before .before .before .before .l .given .0 .1 .0 + 1) s (c .before .before .before .before .before .before .before .before .before .before .before .pre .0) h in
-    (omega arith, omega (arith, c .before .before .before .before .before .before .before .before .before .before .before .pre .0), search needs)
+    let t = c .before .before .before in
+    let l = t .before .before .before .before .before in
+    let a = l .before .before .before .before in
+    let h = closed-le _ _ (ends l) (shut t) in
+    let r = tail-room (a .args .at + 1) (l .l .given .0 .1 .0 + 1) (a .args .s .now) (a .pre .0) h in
+    (omega arith, omega (arith, a .pre .0), search needs)
 
 returns-2 : tie.Need-returns-2
-returns-2 c = shut-found _ _ (ends (c .before .before .before .before .before .before .before .before)) (shut (c .before .before .before)) _ (c .before .before .uncertain .ensures) _ (c .after-location .ensures)
+returns-2 c =
+    let u = c .before .before .before in
+    let t = u .before in
+    shut-found _ _ (ends (t .before .before .before .before .before)) (shut t) _ _ (u .uncertain .ensures) (c .before .before .settled-if .ensures) _ (c .after-location .ensures)
 
 sub-inside-brackets : tie.Need-sub-inside-brackets
 sub-inside-brackets c = interval-within (ends (c .before .before .before .before .before))
@@ -120,6 +128,7 @@ opened-spec =
     add-k
     add-behind
     uncertain-requires
+    settled-if-requires
     sub-after-location
     part-after-location-start
     part-after-location-end

@@ -21,11 +21,23 @@ exact-requires c κs = search needs
 enum-known-b : tie.Need-enum-known-b
 enum-known-b c = search needs
 
+slice-aggregate-begins : tie.Need-slice-aggregate-begins
+slice-aggregate-begins c = search needs
+
+begins-requires : tie.Need-begins-requires
+begins-requires c κs = search needs
+
 no-faults-requires : tie.Need-no-faults-requires
 no-faults-requires c κs = search needs
 
+settled-if-requires : tie.Need-settled-if-requires
+settled-if-requires c κs = search needs
+
 returns : tie.Need-returns
-returns c = exact-found _ _ _ _ (exact-told _ _ (sym (c .before .before .b .given .1) ∙ c .before .before .before .before .exact .ensures)) (c .no-faults .ensures)
+returns c =
+    let o = c .before .before in
+    let b = o .before .before .before in
+    exact-found _ _ _ _ _ _ (exact-told _ _ (sym (b .b .given .1) ∙ b .before .before .exact .ensures)) (o .begins .ensures) (c .before .no-faults .ensures) (c .settled-if .ensures)
 
 enum-told : tie.Need-enum-told
 enum-told c = search needs
@@ -54,7 +66,10 @@ prot-body-spec =
     (tie.spec
     exact-requires
     enum-known-b
+    slice-aggregate-begins
+    begins-requires
     no-faults-requires
+    settled-if-requires
     returns
     enum-told
     ordinary-requires

@@ -101,13 +101,17 @@ add-faults-of-2 c = omega (arith, all-le (c .before .before .before .before .bef
 faults-of-requires : tie.Need-faults-of-requires
 faults-of-requires c κs = omega (arith, all-le (c .before .before .before .before .before .before))
 
+settled-if-requires : tie.Need-settled-if-requires
+settled-if-requires c κs = search needs
+
 returns-3 : tie.Need-returns-3
 returns-3 c =
-    let p = c .before .before .before .before in
+    let f = c .before in
+    let p = f .before .before .before .before in
     let d = p .before .before .before in
     let e = d .before .before in
     let m = e .before .before .before .before in
-    earlier-found _ _ (m .before .before .args .s .now) _ (m .residue-at .ensures) (minus e) (d .number-at .result) (d .number-at .ensures) _ _ _ (p .before .if2 .left) (p .residue-part .ensures) (c .before .before .before .residue-part2 .ensures) (c .faults-of .ensures)
+    earlier-found _ _ (m .before .before .args .s .now) _ (m .residue-at .ensures) (minus e) (d .number-at .result) (d .number-at .ensures) _ _ _ _ (p .before .if2 .left) (p .residue-part .ensures) (f .before .before .before .residue-part2 .ensures) (f .faults-of .ensures) (c .settled-if .ensures)
 
 pub ext-neg-shift-spec : {M : Type 1} → statement M
 ext-neg-shift-spec =
@@ -136,4 +140,5 @@ ext-neg-shift-spec =
     add-faults-of
     add-faults-of-2
     faults-of-requires
+    settled-if-requires
     returns-3)

@@ -133,8 +133,8 @@ begins-requires-4 c κs = search needs
 span-requires : tie.Need-span-requires
 span-requires c κs = search needs
 
-no-faults-requires-2 : tie.Need-no-faults-requires-2
-no-faults-requires-2 c κs = search needs
+unsettled-requires : tie.Need-unsettled-requires
+unsettled-requires c κs = search needs
 
 returns-4 : tie.Need-returns-4
 returns-4 c =
@@ -143,13 +143,13 @@ returns-4 c =
     let x = q .before .before .before in
     let f = x .before .before .before in
     let n = f .before .before .before .before in
-    found-unknown _ (text n) _ (n .residue-at .ensures) (no-fs f) (no-ext x) (no-equal q) _ _ (sym (b .begins4 .ensures) ∙ c .before .before .if4 .taken) (c .before .span .ensures) (c .no-faults2 .ensures)
+    found-unknown _ (text n) _ (n .residue-at .ensures) (no-fs f) (no-ext x) (no-equal q) _ _ (sym (b .begins4 .ensures) ∙ c .before .before .if4 .taken) (c .before .span .ensures) (c .unsettled .ensures)
 
 span-requires-2 : tie.Need-span-requires-2
 span-requires-2 c κs = omega (arith, n-le (c .before .before .before .before .before .before .before .before .before .before .before .before .before .before))
 
-no-faults-requires-3 : tie.Need-no-faults-requires-3
-no-faults-requires-3 c κs = search needs
+no-faults-requires-2 : tie.Need-no-faults-requires-2
+no-faults-requires-2 c κs = search needs
 
 returns-5 : tie.Need-returns-5
 returns-5 c =
@@ -158,7 +158,7 @@ returns-5 c =
     let x = q .before .before .before in
     let f = x .before .before .before in
     let n = f .before .before .before .before in
-    found-subst _ (text n) _ (n .residue-at .ensures) (no-fs f) (no-ext x) (no-equal q) (no-unknown u) _ _ (c .before .before .if5 .taken) (c .before .span2 .ensures) (c .no-faults3 .ensures)
+    found-subst _ (text n) _ (n .residue-at .ensures) (no-fs f) (no-ext x) (no-equal q) (no-unknown u) _ _ (c .before .before .if5 .taken) (c .before .span2 .ensures) (c .no-faults2 .ensures)
 
 worded-requires : tie.Need-worded-requires
 worded-requires c κs = search needs
@@ -201,10 +201,10 @@ protein-edit-at-spec =
     slice-aggregate-begins-4
     begins-requires-4
     span-requires
-    no-faults-requires-2
+    unsettled-requires
     returns-4
     span-requires-2
-    no-faults-requires-3
+    no-faults-requires-2
     returns-5
     worded-requires
     returns-6)

@@ -1,4 +1,4 @@
-use Rattle.same_position.proofs.Laws.{machine-equal}
+use Rattle.location.specs.Equal.{machine-equal}
 use Rattle.same_position.proofs.same_number.Statement.{statement}
 use Rattle.same_position.proofs.same_number.Tie as tie
 
