@@ -9,7 +9,9 @@ use Rattle.lent.specs.Put.{put, put-front}
 use Rattle.record.specs.declared.answers.WriteAnswer.the-variants.{Written, TooLong, NoRoom}
 use Rattle.grammar.specs.Spans.{part}
 use Rattle.grammar.specs.Header.{printKind}
-use Rattle.emit.specs.Texts.{markText, rowText, placeText}
+use Rattle.emit_piece.specs.Texts.{markText}
+use Rattle.emit_row.specs.Texts.{rowText}
+use Rattle.emit_place.specs.Texts.{placeText}
 use Rattle.draft.specs.declared.Heading.{Heading}
 use Rattle.draft.specs.declared.Body.{Body}
 use Rattle.draft.specs.declared.Draft.{Draft}

@@ -8,7 +8,9 @@ use Rattle.grammar.specs.Spans.{part}
 use Rattle.grammar.specs.Header.{printKind}
 use Rattle.record.specs.declared.answers.WriteAnswer.{WriteAnswer}
 use Rattle.record.specs.declared.answers.WriteAnswer.the-variants.{Written, TooLong, NoRoom}
-use Rattle.emit.specs.Texts.{markText, rowText, placeText}
+use Rattle.emit_piece.specs.Texts.{markText}
+use Rattle.emit_row.specs.Texts.{rowText}
+use Rattle.emit_place.specs.Texts.{placeText}
 use Rattle.draft.specs.declared.Heading.{Heading}
 use Rattle.draft.specs.declared.Body.{Body}
 use Rattle.draft.specs.declared.Draft.{Draft}

@@ -1,7 +1,7 @@
 // A whole text that is to be written: how long it is, and its bytes at the front of lent room, where there is room.
-use emit::Mark;
-use emit::Place;
-use emit::Row;
+use emit_piece::Mark;
+use emit_place::Place;
+use emit_row::Row;
 use record::answers::WriteAnswer;
 use record::spans::Span;
 use record::variant::Kind;
@@ -41,10 +41,10 @@ fn heading_len(source: &[u8], h: Heading) -> usize
     let opening = h.opening;
     let gene = h.gene;
     let closing = h.closing;
-    emit::part_len(source, accession)
-        + emit::mark_len(opening)
-        + emit::part_len(source, gene)
-        + emit::mark_len(closing)
+    emit_piece::part_len(source, accession)
+        + emit_piece::mark_len(opening)
+        + emit_piece::part_len(source, gene)
+        + emit_piece::mark_len(closing)
         + 3
 }
 
@@ -57,11 +57,11 @@ fn put_heading(source: &[u8], out: &mut [u8], at: usize, h: Heading) -> usize
     let gene = h.gene;
     let closing = h.closing;
     let kind = h.kind;
-    let at = emit::put_part(source, out, at, accession);
-    let at = emit::put_mark(out, at, opening);
-    let at = emit::put_part(source, out, at, gene);
-    let at = emit::put_mark(out, at, closing);
-    emit::put_kind(out, at, kind)
+    let at = emit_piece::put_part(source, out, at, accession);
+    let at = emit_piece::put_mark(out, at, opening);
+    let at = emit_piece::put_part(source, out, at, gene);
+    let at = emit_piece::put_mark(out, at, closing);
+    emit_kind::put_kind(out, at, kind)
 }
 
 fn body_len(source: &[u8], b: Body) -> usize
@@ -72,10 +72,10 @@ fn body_len(source: &[u8], b: Body) -> usize
     let opening = b.opening;
     let row = b.row;
     let closing = b.closing;
-    emit::place_len(source, place)
-        + emit::mark_len(opening)
-        + emit::row_len(source, row)
-        + emit::mark_len(closing)
+    emit_place::place_len(source, place)
+        + emit_piece::mark_len(opening)
+        + emit_row::row_len(source, row)
+        + emit_piece::mark_len(closing)
 }
 
 fn put_body(source: &[u8], out: &mut [u8], at: usize, b: Body) -> usize
@@ -86,10 +86,10 @@ fn put_body(source: &[u8], out: &mut [u8], at: usize, b: Body) -> usize
     let opening = b.opening;
     let row = b.row;
     let closing = b.closing;
-    let at = emit::put_place(source, out, at, place);
-    let at = emit::put_mark(out, at, opening);
-    let at = emit::put_row(source, out, at, row);
-    emit::put_mark(out, at, closing)
+    let at = emit_place::put_place(source, out, at, place);
+    let at = emit_piece::put_mark(out, at, opening);
+    let at = emit_row::put_row(source, out, at, row);
+    emit_piece::put_mark(out, at, closing)
 }
 
 fn draft_len(source: &[u8], d: Draft) -> usize

@@ -13,9 +13,9 @@ use Rattle.number.specs.Reading.{most}
 use Rattle.number.specs.Signs.{signOf, sign-most}
 use Rattle.record.specs.declared.spans.Span.{Span}
 use Rattle.record.specs.declared.positions.Offset.{Offset}
-use Rattle.emit.specs.declared.Mark.{Mark}
-use Rattle.emit.specs.declared.Amount.{Amount}
-use Rattle.emit.specs.declared.Amount.the-variants.{Count}
+use Rattle.emit_piece.specs.declared.Mark.{Mark}
+use Rattle.emit_piece.specs.declared.Amount.{Amount}
+use Rattle.emit_piece.specs.declared.Amount.the-variants.{Count}
 use Rattle.plan_location.specs.declared.EndPlan.the-variants.{NoText, Text}
 use Rattle.plan_location.specs.Plan.{held, heldOffset, offsetSign, offsetAmount, endPlan, unsignedPlan}
 

@@ -18,12 +18,13 @@ use Rattle.grammar.specs.Spans.{part}
 use Rattle.read_location.specs.declared.Position.{Position}
 use Rattle.read_location.specs.declared.Location.{Location}
 use Rattle.same_position.specs.Same.{samePosition}
-use Rattle.emit.specs.Texts.{noSpan, noEnd}
-use Rattle.emit.specs.declared.Mark.{Mark}
-use Rattle.emit.specs.declared.Mark.the-variants.{Nothing, Byte}
-use Rattle.emit.specs.declared.Amount.{Amount}
-use Rattle.emit.specs.declared.Amount.the-variants as Amounts
-use Rattle.emit.specs.declared.End.{End}
+use Rattle.emit_piece.specs.Texts.{noSpan}
+use Rattle.emit_place.specs.Texts.{noEnd}
+use Rattle.emit_piece.specs.declared.Mark.{Mark}
+use Rattle.emit_piece.specs.declared.Mark.the-variants.{Nothing, Byte}
+use Rattle.emit_piece.specs.declared.Amount.{Amount}
+use Rattle.emit_piece.specs.declared.Amount.the-variants as Amounts
+use Rattle.emit_place.specs.declared.End.{End}
 use Rattle.plan_location.specs.declared.EndPlan.{EndPlan}
 use Rattle.plan_location.specs.declared.EndPlan.the-variants as Ends
 use Rattle.plan_location.specs.declared.PlacePlan.{PlacePlan}

@@ -41,10 +41,12 @@ use Rattle.read_location.specs.declared.Location.{Location}
 use Rattle.read_location.specs.Records.{positionFor, muFor, locationFor}
 use Rattle.record_location.specs.Locations.{anyLocation, any-location}
 use Rattle.same_position.specs.Same.{samePosition}
-use Rattle.emit.specs.Texts.{markText, amountText, endText, placeText, noSpan, noEnd}
-use Rattle.emit.specs.Laws.{no-part, no-end}
-use Rattle.emit.specs.declared.Mark as Emit
-use Rattle.emit.specs.declared.Mark.the-variants.{Nothing, Byte}
+use Rattle.emit_piece.specs.Texts.{markText, amountText, noSpan}
+use Rattle.emit_place.specs.Texts.{endText, placeText, noEnd}
+use Rattle.emit_piece.specs.Laws.{no-part}
+use Rattle.emit_place.specs.Laws.{no-end}
+use Rattle.emit_piece.specs.declared.Mark as Emit
+use Rattle.emit_piece.specs.declared.Mark.the-variants.{Nothing, Byte}
 use Rattle.plan_location.specs.declared.EndPlan.{EndPlan}
 use Rattle.plan_location.specs.declared.EndPlan.the-variants as Ends
 use Rattle.plan_location.specs.declared.PlacePlan.{PlacePlan}

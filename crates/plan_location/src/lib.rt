@@ -1,8 +1,8 @@
 // What is to be written for a location of any kind: brackets or none, and one position where both ends are one, else two.
-use emit::Amount;
-use emit::End;
-use emit::Mark;
-use emit::Place;
+use emit_piece::Amount;
+use emit_piece::Mark;
+use emit_place::End;
+use emit_place::Place;
 use read_location::Location;
 use read_location::Position;
 use record::positions::CdsFrom;
@@ -12,7 +12,7 @@ use record::variant::Kind;
 ghost use mathlib.Core.Path.{_≡_};
 ghost use mathlib.Core.Bool.{true};
 ghost use Rattle.alphabet.specs.Cells.{IsTable};
-ghost use Rattle.emit.specs.Texts.{noEnd};
+ghost use Rattle.emit_place.specs.Texts.{noEnd};
 ghost use Rattle.plan_location.specs.Plan.{heldOffset, signMark, offsetSign, offsetAmount, endPlan, unsignedPlan, basedPlan, genomicPlan, residualPlan, positionPlan, bracketMark, placePlan, planLocation};
 
 // A position that is to be written, where it has a text.

@@ -8,15 +8,16 @@ use Rattle.record.specs.declared.edits.NaEdit.{NaEdit}
 use Rattle.record.specs.declared.edits.MuNaEdit.{MuNaEdit}
 use Rattle.record.specs.declared.edits.MuNaEdit.the-variants as MuNa
 use Rattle.read_location.specs.declared.Location.{Location}
-use Rattle.emit.specs.declared.Place.{Place}
-use Rattle.emit.specs.declared.Row.{Row}
+use Rattle.emit_place.specs.declared.Place.{Place}
+use Rattle.emit_row.specs.declared.Row.{Row}
 use Rattle.rows.specs.declared.RowPlan.{RowPlan}
 use Rattle.rows.specs.declared.RowPlan.the-variants as Rows
 use Rattle.draft.specs.declared.Body.{Body}
 use Rattle.plan_location.specs.declared.PlacePlan.{PlacePlan}
 use Rattle.plan_location.specs.declared.PlacePlan.the-variants as Places
 use Rattle.plan_location.specs.Plan.{bracketMark, planLocation}
-use Rattle.plan_na_edit.specs.Plan.{planNaEdit, noRefRow}
+use Rattle.plan_na_edit.specs.Plan.{planNaEdit}
+use Rattle.plan_no_ref.specs.NoRef.{noRefRow}
 use Rattle.plan_na_body.specs.declared.BodyPlan.{BodyPlan}
 use Rattle.plan_na_body.specs.declared.BodyPlan.the-variants.{NoText, Text}
 

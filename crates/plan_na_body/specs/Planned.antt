@@ -25,8 +25,10 @@ use Rattle.na_edits.specs.Alphabet.{nucleotides}
 use Rattle.na_edits.specs.Canon.{canonNaEdit}
 use Rattle.promise.specs.NoRef.{noRefEdit}
 use Rattle.record_location.specs.Locations.{anyLocation}
-use Rattle.emit.specs.Texts.{markText, rowText, placeText}
-use Rattle.emit.specs.declared.Row.{Row}
+use Rattle.emit_piece.specs.Texts.{markText}
+use Rattle.emit_row.specs.Texts.{rowText}
+use Rattle.emit_place.specs.Texts.{placeText}
+use Rattle.emit_row.specs.declared.Row.{Row}
 use Rattle.rows.specs.declared.RowPlan.{RowPlan}
 use Rattle.rows.specs.declared.RowPlan.the-variants as Rows
 use Rattle.rows.specs.Rows as R
@@ -38,7 +40,8 @@ use Rattle.plan_location.specs.declared.PlacePlan.the-variants as Places
 use Rattle.plan_location.specs.Plan.{bracketMark, planLocation}
 use Rattle.plan_location.specs.Planned as L
 use Rattle.plan_location.specs.Planned.{muOf}
-use Rattle.plan_na_edit.specs.Plan.{planNaEdit, noRefRow}
+use Rattle.plan_na_edit.specs.Plan.{planNaEdit}
+use Rattle.plan_no_ref.specs.NoRef.{noRefRow, no-ref-text}
 use Rattle.plan_na_edit.specs.Planned as E
 use Rattle.plan_na_body.specs.declared.BodyPlan.{BodyPlan}
 use Rattle.plan_na_body.specs.declared.BodyPlan.the-variants.{NoText, Text}
@@ -97,7 +100,7 @@ module _ (s : List ℕ) where
   row-text : (isShortest : Bool) (e : NaEdit) → R.planText s (naRow s isShortest e) ≡ mapO (editWords isShortest (naEditContent s e)) (canonNaEdit nucleotide (naEditContent s e))
   unfolding naRow
   row-text true e = E.planned s e
-  row-text false e = replaced-text (planNaEdit s e) (noRefRow s e) (canonNaEdit nucleotide (naEditContent s e)) (noRefEdit (naEditContent s e)) (E.planned s e) (E.no-ref-text s e)
+  row-text false e = replaced-text (planNaEdit s e) (noRefRow s e) (canonNaEdit nucleotide (naEditContent s e)) (noRefEdit (naEditContent s e)) (E.planned s e) (no-ref-text s e)
 
   body-text : (isShortest isCertain : Bool) (k : Kind) (l : MuIntervalR k) (e : NaEdit)
       → planText (joinedPlan isCertain (planLocation s k (anyLocation k l)) (naRow s isShortest e))

@@ -1,7 +1,7 @@
 // What is to be written for a nucleotide body: its location, then its edit, which stands in brackets where it is not certain.
 use draft::Body;
-use emit::Place;
-use emit::Row;
+use emit_place::Place;
+use emit_row::Row;
 use plan_location::PlacePlan;
 use read_location::Location;
 use record::edits::MuNaEdit;
@@ -60,7 +60,7 @@ fn na_row(table: &[u8; 256], source: &[u8], shortest: bool, e: NaEdit) -> RowPla
     if shortest {
         return planned;
     }
-    replaced(planned, plan_na_edit::no_ref(source, e))
+    replaced(planned, plan_no_ref::no_ref(source, e))
 }
 
 fn is_certain(e: MuNaEdit) -> bool

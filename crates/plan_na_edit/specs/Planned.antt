@@ -1,4 +1,4 @@
--- The text of a planned row is that of the edit's canonical tree, and the text without the reference is the one promised.
+-- The text of a planned row is that of the edit's canonical tree.
 use Prim.Native.Nat.{ℕ}
 use mathlib.Core.Path.{_≡_, refl, ap, _∙_}
 use mathlib.Core.List.{List, _∷_, _++_, append-nil}
@@ -21,15 +21,16 @@ use Rattle.grammar.specs.NucleotideEdits as Tree
 use Rattle.grammar.specs.NucleotideEdits.{NaEdit.equal, NaEdit.swap, NaEdit.delIns, NaEdit.delNumIns, NaEdit.delNum, NaEdit.del, NaEdit.ins, NaEdit.dup, NaEdit.invNum, NaEdit.inv, printNaEdit}
 use Rattle.lang.specs.Canon.{mapO}
 use Rattle.na_edits.specs.Canon.{canonRefAlt, canonNaEdit}
-use Rattle.promise.specs.NoRef.{noRefEdit}
-use Rattle.emit.specs.declared.Word.{Word}
-use Rattle.emit.specs.declared.Word.the-variants.{Empty, Del, Ins, DelIns, Dup, Inv, Equal, Greater}
-use Rattle.emit.specs.Words.{wordText}
-use Rattle.emit.specs.Texts.{noSpan, rowText}
-use Rattle.emit.specs.Laws.{no-part}
+use Rattle.emit_word.specs.declared.Word.{Word}
+use Rattle.emit_word.specs.declared.Word.the-variants.{Empty, Del, Ins, Dup, Inv, Equal, Greater}
+use Rattle.emit_word.specs.Words.{wordText}
+use Rattle.emit_piece.specs.Texts.{noSpan}
+use Rattle.emit_row.specs.Texts.{rowText}
+use Rattle.emit_piece.specs.Laws.{no-part}
 use Rattle.rows.specs.Rows.{planText, lettersRow, isUnsigned}
-use Rattle.rows.specs.Laws.{letters-text, word-text, word-alone, either, row-text, row-if, unsigned-digits}
-use Rattle.plan_na_edit.specs.Plan.{delInsRow, countRow, isSeq, isSeq1, sameParts, onesParts, planChange, planRefAlt, planNumAlt, planCount, planNaEdit, noRefAlt, noRefRow}
+use Rattle.rows.specs.Laws.{letters-text, word-text, either, row-text, row-if, unsigned-digits}
+use Rattle.na_edit_tests.specs.Tests.{isSeq, isSeq1, sameParts, onesParts}
+use Rattle.plan_na_edit.specs.Plan.{delInsRow, countRow, planChange, planRefAlt, planNumAlt, planCount, planNaEdit}
 
 -- ---- the texts of the rows
 counted-is : (f : List ℕ → Tree.NaEdit) (n : ℤ) → mapO f (unsignedDigits n) ≡ cond (isUnsigned n) (some (f (dec (natAbs n)))) none
@@ -93,23 +94,3 @@ module _ (s : List ℕ) where
   planned (Na.Dup p) = row-if s printNaEdit (isSeq s p) _ (dup (part s p)) (word-text s Dup p)
   planned (Na.InvRef p) = row-if s printNaEdit (isSeq s p) _ (inv (part s p)) (word-text s Inv p)
   planned (Na.InvNum n) = count-planned Inv invNum n (λ ds. refl)
-
-  -- ---- without the reference
-  no-ref-alt : (p q : Span) → rowText s (noRefAlt s p q) ≡ noRefEdit (naEditContent s (Na.RefAlt p q))
-  unfolding noRefAlt
-  no-ref-alt p q = go (sameParts s p q) (onesParts s p q) refl refl
-    where
-      go : (t u : Bool) → sameParts s p q ≡ t → onesParts s p q ≡ u → rowText s (noRefAlt s p q) ≡ noRefEdit (naEditContent s (Na.RefAlt p q))
-      go true u e f = rw (e, noRefAlt) (word-alone s Equal)
-      go false true e f = rw (e, f, noRefAlt) (letters-text s p Greater q)
-      go false false e f = rw (e, f, noRefAlt) (word-text s DelIns q)
-
-  pub no-ref-text : (e : NaEdit) → rowText s (noRefRow s e) ≡ noRefEdit (naEditContent s e)
-  no-ref-text (Na.RefAlt p q) = no-ref-alt p q
-  no-ref-text (Na.NumAlt n q) = word-text s DelIns q
-  no-ref-text (Na.DelRef p) = word-alone s Del
-  no-ref-text (Na.DelNum n) = word-alone s Del
-  no-ref-text (Na.Ins q) = word-text s Ins q
-  no-ref-text (Na.Dup p) = word-alone s Dup
-  no-ref-text (Na.InvRef p) = word-alone s Inv
-  no-ref-text (Na.InvNum n) = word-alone s Inv

@@ -1,62 +1,14 @@
-// Which text is to be written for a nucleotide edit: a row of the engine's, or none.
-use alphabet::Class;
-use emit::Amount;
-use emit::Mark;
-use emit::Row;
-use emit::Word;
+// Which text is to be written for a nucleotide edit: a row of pieces, or none.
+use emit_piece::Amount;
+use emit_piece::Mark;
+use emit_row::Row;
+use emit_word::Word;
 use record::edits::NaEdit;
 use record::spans::Span;
 use rows::RowPlan;
 ghost use mathlib.Core.Path.{_≡_};
-ghost use lib.Dec.{leb};
-ghost use lib.ListN.{length};
 ghost use Rattle.alphabet.specs.Cells.{IsTable};
-ghost use Rattle.grammar.specs.Spans.{part};
-ghost use Rattle.plan_na_edit.specs.Plan.{delInsRow, countRow, isSeq, isSeq1, sameParts, onesParts, planChange, planRefAlt, planNumAlt, planCount, planSeq, planIns, planNaEdit, noRefAlt, noRefRow};
-
-// ---- tests of letters
-
-// Zero or more letters.
-fn is_seq(table: &[u8; 256], source: &[u8], p: Span) -> bool
-    requires { ⌜ IsTable (now table) ⌝ }
-    ensures { λ r. ⌜ r ≡ isSeq (now (source .entry)) p ⌝ }
-{
-    let bytes = parts::part_of(source, p);
-    alphabet::run_of(table, Class::Nucleotide, bytes) == bytes.len()
-}
-
-fn is_some(source: &[u8], q: Span) -> bool
-    ensures { λ r. ⌜ r ≡ leb 1 (length (part (now (source .entry)) q)) ⌝ }
-{
-    1 <= emit::part_len(source, q)
-}
-
-// One or more letters.
-fn is_seq1(table: &[u8; 256], source: &[u8], q: Span) -> bool
-    requires { ⌜ IsTable (now table) ⌝ }
-    ensures { λ r. ⌜ r ≡ isSeq1 (now (source .entry)) q ⌝ }
-{
-    if is_seq(table, source, q) {
-        return is_some(source, q);
-    }
-    false
-}
-
-fn same_parts(source: &[u8], p: Span, q: Span) -> bool
-    ensures { λ r. ⌜ r ≡ sameParts (now (source .entry)) p q ⌝ }
-{
-    rows::same_bytes(parts::part_of(source, p), parts::part_of(source, q))
-}
-
-// One byte each.
-fn ones_parts(source: &[u8], p: Span, q: Span) -> bool
-    ensures { λ r. ⌜ r ≡ onesParts (now (source .entry)) p q ⌝ }
-{
-    if emit::part_len(source, p) == 1 {
-        return emit::part_len(source, q) == 1;
-    }
-    false
-}
+ghost use Rattle.plan_na_edit.specs.Plan.{delInsRow, countRow, planChange, planRefAlt, planNumAlt, planCount, planSeq, planIns, planNaEdit};
 
 // ---- rows
 
@@ -93,23 +45,23 @@ fn count_row(word: Word, v: u32, joint: Word, q: Span) -> Row
 fn plan_change(source: &[u8], p: Span, q: Span) -> RowPlan
     ensures { λ r. ⌜ r ≡ planChange (now (source .entry)) p q ⌝ }
 {
-    if same_parts(source, p, q) {
+    if na_edit_tests::same_parts(source, p, q) {
         return RowPlan::Text(rows::letters_row(p, Word::Equal, rows::no_span()));
     }
-    if ones_parts(source, p, q) {
+    if na_edit_tests::ones_parts(source, p, q) {
         return RowPlan::Text(rows::letters_row(p, Word::Greater, q));
     }
-    rows::row_if(is_some(source, q), del_ins_row(p, q))
+    rows::row_if(na_edit_tests::is_some(source, q), del_ins_row(p, q))
 }
 
 fn plan_ref_alt(table: &[u8; 256], source: &[u8], p: Span, q: Span) -> RowPlan
     requires { ⌜ IsTable (now table) ⌝ }
     ensures { λ r. ⌜ r ≡ planRefAlt (now (source .entry)) p q ⌝ }
 {
-    if !is_seq(table, source, p) {
+    if !na_edit_tests::is_seq(table, source, p) {
         return RowPlan::NoText;
     }
-    if !is_seq(table, source, q) {
+    if !na_edit_tests::is_seq(table, source, q) {
         return RowPlan::NoText;
     }
     plan_change(source, p, q)
@@ -119,7 +71,7 @@ fn plan_num_alt(table: &[u8; 256], source: &[u8], n: i32, q: Span) -> RowPlan
     requires { ⌜ IsTable (now table) ⌝ }
     ensures { λ r. ⌜ r ≡ planNumAlt (now (source .entry)) n q ⌝ }
 {
-    if !is_seq1(table, source, q) {
+    if !na_edit_tests::is_seq1(table, source, q) {
         return RowPlan::NoText;
     }
     rows::row_if(
@@ -141,14 +93,20 @@ fn plan_seq(table: &[u8; 256], source: &[u8], word: Word, p: Span) -> RowPlan
     requires { ⌜ IsTable (now table) ⌝ }
     ensures { λ r. ⌜ r ≡ planSeq (now (source .entry)) word p ⌝ }
 {
-    rows::row_if(is_seq(table, source, p), rows::word_row(word, p))
+    rows::row_if(
+        na_edit_tests::is_seq(table, source, p),
+        rows::word_row(word, p),
+    )
 }
 
 fn plan_ins(table: &[u8; 256], source: &[u8], q: Span) -> RowPlan
     requires { ⌜ IsTable (now table) ⌝ }
     ensures { λ r. ⌜ r ≡ planIns (now (source .entry)) q ⌝ }
 {
-    rows::row_if(is_seq1(table, source, q), rows::word_row(Word::Ins, q))
+    rows::row_if(
+        na_edit_tests::is_seq1(table, source, q),
+        rows::word_row(Word::Ins, q),
+    )
 }
 
 // The row of the shortest text of an edit; none where no text reads as it.
@@ -165,35 +123,5 @@ pub fn plan_na_edit(table: &[u8; 256], source: &[u8], e: NaEdit) -> RowPlan
         NaEdit::Dup(p) => plan_seq(table, source, Word::Dup, p),
         NaEdit::InvRef(p) => plan_seq(table, source, Word::Inv, p),
         NaEdit::InvNum(n) => plan_count(Word::Inv, n),
-    }
-}
-
-// ---- without the reference
-
-fn no_ref_alt(source: &[u8], p: Span, q: Span) -> Row
-    ensures { λ r. ⌜ r ≡ noRefAlt (now (source .entry)) p q ⌝ }
-{
-    if same_parts(source, p, q) {
-        return rows::word_alone(Word::Equal);
-    }
-    if ones_parts(source, p, q) {
-        return rows::letters_row(p, Word::Greater, q);
-    }
-    rows::word_row(Word::DelIns, q)
-}
-
-// The row of an edit's text without the reference.
-pub fn no_ref(source: &[u8], e: NaEdit) -> Row
-    ensures { λ r. ⌜ r ≡ noRefRow (now (source .entry)) e ⌝ }
-{
-    match e {
-        NaEdit::RefAlt(p, q) => no_ref_alt(source, p, q),
-        NaEdit::NumAlt(_, q) => rows::word_row(Word::DelIns, q),
-        NaEdit::DelRef(_) => rows::word_alone(Word::Del),
-        NaEdit::DelNum(_) => rows::word_alone(Word::Del),
-        NaEdit::Ins(q) => rows::word_row(Word::Ins, q),
-        NaEdit::Dup(_) => rows::word_alone(Word::Dup),
-        NaEdit::InvRef(_) => rows::word_alone(Word::Inv),
-        NaEdit::InvNum(_) => rows::word_alone(Word::Inv),
     }
 }

@@ -20,14 +20,14 @@ use Rattle.canon.specs.ProteinBodyCanon.{isUnknown}
 use Rattle.read_location.specs.declared.Position.{Position}
 use Rattle.read_location.specs.declared.Location.{Location}
 use Rattle.record_location.specs.Locations.{anyLocation}
-use Rattle.emit.specs.Texts.{noEnd}
-use Rattle.emit.specs.declared.Word.{Word}
-use Rattle.emit.specs.declared.Word.the-variants.{Equal, Question, Met1, NoProtein, NoProteinUncertain, NoChangeUncertain}
-use Rattle.emit.specs.declared.Mark.the-variants.{Nothing, Byte}
-use Rattle.emit.specs.declared.Amount.the-variants.{Absent, Count}
-use Rattle.emit.specs.declared.End.{End}
-use Rattle.emit.specs.declared.Place.{Place}
-use Rattle.emit.specs.declared.Row.{Row}
+use Rattle.emit_place.specs.Texts.{noEnd}
+use Rattle.emit_word.specs.declared.Word.{Word}
+use Rattle.emit_word.specs.declared.Word.the-variants.{Equal, Question, Met1, NoProtein, NoProteinUncertain, NoChangeUncertain}
+use Rattle.emit_piece.specs.declared.Mark.the-variants.{Nothing, Byte}
+use Rattle.emit_piece.specs.declared.Amount.the-variants.{Absent, Count}
+use Rattle.emit_place.specs.declared.End.{End}
+use Rattle.emit_place.specs.declared.Place.{Place}
+use Rattle.emit_row.specs.declared.Row.{Row}
 use Rattle.rows.specs.Rows.{wordAlone}
 use Rattle.rows.specs.declared.RowPlan.{RowPlan}
 use Rattle.rows.specs.declared.RowPlan.the-variants as Rows

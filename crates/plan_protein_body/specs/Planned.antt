@@ -29,14 +29,16 @@ use Rattle.canon.specs.ProteinBodyCanon.{barred, isMet1, inner, joined, met01, 
 use Rattle.read_location.specs.declared.Position.{Position}
 use Rattle.read_location.specs.declared.Location.{Location}
 use Rattle.record_location.specs.Locations.{anyLocation}
-use Rattle.emit.specs.Texts.{markText, endText, placeText, rowText}
-use Rattle.emit.specs.Laws.{no-end}
-use Rattle.emit.specs.declared.Word.{Word}
-use Rattle.emit.specs.declared.Word.the-variants.{Equal, Question, Met1, NoProtein, NoProteinUncertain, NoChangeUncertain}
-use Rattle.emit.specs.declared.Mark.{Mark}
-use Rattle.emit.specs.declared.Place.{Place}
-use Rattle.emit.specs.declared.Row.{Row}
-use Rattle.emit.specs.Words.{wordText}
+use Rattle.emit_piece.specs.Texts.{markText}
+use Rattle.emit_place.specs.Texts.{endText, placeText}
+use Rattle.emit_row.specs.Texts.{rowText}
+use Rattle.emit_place.specs.Laws.{no-end}
+use Rattle.emit_word.specs.declared.Word.{Word}
+use Rattle.emit_word.specs.declared.Word.the-variants.{Equal, Question, Met1, NoProtein, NoProteinUncertain, NoChangeUncertain}
+use Rattle.emit_piece.specs.declared.Mark.{Mark}
+use Rattle.emit_place.specs.declared.Place.{Place}
+use Rattle.emit_row.specs.declared.Row.{Row}
+use Rattle.emit_word.specs.Words.{wordText}
 use Rattle.rows.specs.Rows as R
 use Rattle.rows.specs.Rows.{wordAlone}
 use Rattle.rows.specs.Laws.{word-alone}

@@ -1,11 +1,11 @@
 // What is to be written for a protein body: location and edit, in one pair of brackets where both are uncertain; or a word alone.
 use draft::Body;
-use emit::Amount;
-use emit::End;
-use emit::Mark;
-use emit::Place;
-use emit::Row;
-use emit::Word;
+use emit_piece::Amount;
+use emit_piece::Mark;
+use emit_place::End;
+use emit_place::Place;
+use emit_row::Row;
+use emit_word::Word;
 use plan_location::PlacePlan;
 use plan_na_body::BodyPlan;
 use read_location::Location;
@@ -21,7 +21,7 @@ ghost use mathlib.Core.Bool.{_||_, not};
 ghost use Rattle.texts.specs.Words.{same};
 ghost use Rattle.alphabet.specs.Cells.{IsTable};
 ghost use Rattle.grammar.specs.Spans.{part};
-ghost use Rattle.emit.specs.Texts.{noEnd};
+ghost use Rattle.emit_place.specs.Texts.{noEnd};
 ghost use Rattle.plan_protein_body.specs.Plan.{isMetOne, isUnknownEdit, isAlike, isBarred, placeAt, met01Place, bodyOf, togetherPlan, planOrdinary, planMuProtein, wordBody, planProteinBody};
 
 // ---- the Met-1 `?` record: its composed text would be `Met1?` or `(Met1?)`, which read as another

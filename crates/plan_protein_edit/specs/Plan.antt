@@ -1,14 +1,10 @@
 -- The row to be written for a protein edit: the cases of its canonical tree, with spans for residues and terminals.
-use Prim.Native.Nat.{ℕ, zero, suc}
+use Prim.Native.Nat.{ℕ}
 use Prim.Native.Char.{code}
 use mathlib.Core.List.{List}
-use mathlib.Core.Bool.{Bool, true, false, cond, _&&_, _||_}
-use lib.IntN.{ℤ, pos, negsuc, natAbs}
-use Rattle.texts.specs.Ascii.{ascii}
-use Rattle.texts.specs.Words.{same}
-use Rattle.number.specs.Reading.{fits}
-use Rattle.number.specs.declared.Sign.the-variants.{Negated}
-use Rattle.residue.specs.Residues.{isResidue, isResidues}
+use mathlib.Core.Bool.{Bool, true, false, cond, _&&_}
+use lib.IntN.{natAbs}
+use Rattle.residue.specs.Residues.{isResidues}
 use Rattle.record.specs.declared.spans.Span.{Span}
 use Rattle.record.specs.declared.spans.Part.{Part}
 use Rattle.record.specs.declared.spans.Part.the-variants as Pa
@@ -16,19 +12,19 @@ use Rattle.record.specs.declared.edits.UncertainLengthChange.{UncertainLengthCh
 use Rattle.record.specs.declared.edits.UncertainLengthChange.the-variants.{None, Unknown, Known}
 use Rattle.record.specs.declared.edits.ProteinEdit.{ProteinEdit}
 use Rattle.record.specs.declared.edits.ProteinEdit.the-variants as Pr
-use Rattle.grammar.specs.Spans.{part, optionalPart}
-use Rattle.protein_edits.specs.Canon.{isOptional}
-use Rattle.emit.specs.declared.Word.{Word}
-use Rattle.emit.specs.declared.Word.the-variants.{Empty, Del, Ins, DelIns, Dup, Fs, Ext, Equal, Question}
-use Rattle.emit.specs.declared.Mark.{Mark}
-use Rattle.emit.specs.declared.Mark.the-variants.{Nothing, Byte}
-use Rattle.emit.specs.declared.Amount.{Amount}
-use Rattle.emit.specs.declared.Amount.the-variants.{Absent, Count}
-use Rattle.emit.specs.declared.Row.{Row}
-use Rattle.emit.specs.Texts.{noSpan}
+use Rattle.grammar.specs.Spans.{part}
+use Rattle.emit_word.specs.declared.Word.{Word}
+use Rattle.emit_word.specs.declared.Word.the-variants.{Empty, Del, Ins, DelIns, Dup, Fs, Ext, Equal, Question}
+use Rattle.emit_piece.specs.declared.Mark.{Mark}
+use Rattle.emit_piece.specs.declared.Mark.the-variants.{Nothing, Byte}
+use Rattle.emit_piece.specs.declared.Amount.{Amount}
+use Rattle.emit_piece.specs.declared.Amount.the-variants.{Absent, Count}
+use Rattle.emit_row.specs.declared.Row.{Row}
+use Rattle.emit_piece.specs.Texts.{noSpan}
 use Rattle.rows.specs.Rows.{rowIf, lettersRow, wordRow, wordAlone, isUnsigned}
 use Rattle.rows.specs.declared.RowPlan.{RowPlan}
 use Rattle.rows.specs.declared.RowPlan.the-variants.{NoText, Text}
+use Rattle.protein_edit_tests.specs.Tests.{isNegated, isTerminal, isOptionalPart, isSubst}
 
 -- ---- what stands in the row
 abbrev pub spanOf : Part → Span
@@ -51,12 +47,6 @@ abbrev pub endRow : Part → Word → Part → Mark → UncertainLengthChange �
 endRow r word t sign n = record { first = spanOf r; word = word; second = spanOf t; sign = sign; amount = amountOf n; joint = jointOf n; last = noSpan }
 
 -- ---- tests
--- what the negative of unsigned digits that fit may be
-abbrev pub isNegated : ℤ → Bool
-isNegated (pos zero) = true
-isNegated (pos (suc v)) = false
-isNegated (negsuc v) = fits Negated (suc v)
-
 abbrev pub isLength : UncertainLengthChange → Bool
 isLength None = true
 isLength Unknown = true
@@ -67,14 +57,7 @@ isNone None = true
 isNone Unknown = false
 isNone (Known z) = false
 
-unfoldable pub isTerminal : List ℕ → Bool
-isTerminal w = same w (ascii "Ter") || (same w (ascii "X") || same w (ascii "*"))
-
 module _ (s : List ℕ) where
-  -- a residue, or none
-  abbrev pub isOptionalPart : Part → Bool
-  isOptionalPart r = isOptional (optionalPart s r)
-
   -- a terminal with a length, or neither
   abbrev pub isTerminalWith : Span → UncertainLengthChange → Bool
   isTerminalWith p n = isTerminal (part s p) && isLength n
@@ -87,25 +70,22 @@ module _ (s : List ℕ) where
   abbrev pub isEarlier : Part → UncertainLengthChange → Bool
   isEarlier t None = false
   isEarlier t Unknown = false
-  isEarlier t (Known z) = isOptionalPart t && isNegated z
+  isEarlier t (Known z) = isOptionalPart s t && isNegated z
 
   -- ---- plans
   unfoldable pub planFs : Part → Part → UncertainLengthChange → RowPlan
-  planFs r t n = cond (isOptionalPart r) (rowIf (isStop t n) (endRow r Fs t Nothing n)) NoText
+  planFs r t n = cond (isOptionalPart s r) (rowIf (isStop t n) (endRow r Fs t Nothing n)) NoText
 
   -- `extTer0`, and `-` where no terminal does
   unfoldable pub planExt : Part → Part → UncertainLengthChange → RowPlan
   planExt r t n =
-      cond (isOptionalPart r)
+      cond (isOptionalPart s r)
       (cond (isStop t n) (Text (endRow r Ext t Nothing n))
       (rowIf (isEarlier t n) (endRow r Ext t (Byte (code "-")) n)))
       NoText
 
-  unfoldable pub isSubst : Span → Bool
-  isSubst p = isResidue (part s p) || same (part s p) (ascii "?")
-
   abbrev pub planSubst : Span → RowPlan
-  planSubst p = rowIf (isSubst p) (lettersRow p Empty noSpan)
+  planSubst p = rowIf (isSubst s p) (lettersRow p Empty noSpan)
 
   abbrev pub planResidues : Word → Span → RowPlan
   planResidues word p = rowIf (isResidues (part s p)) (wordRow word p)

@@ -1,16 +1,15 @@
 -- The text of a planned row is that of the edit's canonical tree.
-use Prim.Native.Nat.{ℕ, zero, suc}
+use Prim.Native.Nat.{ℕ}
 use Prim.Native.Char.{code}
 use mathlib.Core.Path.{_≡_, refl, sym, ap, _∙_}
 use mathlib.Core.List.{List, [], _++_, append-nil}
 use mathlib.Core.Option.{Option, none, some}
-use mathlib.Core.Bool.{Bool, true, false, cond, _&&_, _||_}
-use lib.IntN.{ℤ, pos, negsuc, natAbs}
+use mathlib.Core.Bool.{Bool, true, false, cond, _&&_}
+use lib.IntN.{ℤ, natAbs}
 use Rattle.texts.specs.Ascii.{ascii}
-use Rattle.texts.specs.Words.{same, same-true}
 use Rattle.number.specs.Digits.{dec}
 use Rattle.number.specs.Written.{unsignedDigits, negatedDigits}
-use Rattle.residue.specs.Residues.{isResidue, isResidues}
+use Rattle.residue.specs.Residues.{isResidues}
 use Rattle.record.specs.declared.spans.Span.{Span}
 use Rattle.record.specs.declared.spans.Part.{Part}
 use Rattle.record.specs.declared.spans.Part.the-variants as Pa
@@ -21,64 +20,34 @@ use Rattle.record.specs.declared.edits.ProteinEdit.the-variants as Pr
 use Rattle.grammar.specs.Spans.{part, optionalPart}
 use Rattle.grammar.specs.Contents.{proteinEditContent}
 use Rattle.grammar.specs.Optional.{printOptional}
-use Rattle.grammar.specs.ProteinEdits.{Terminal, Terminal.ter, Terminal.x, Terminal.star, Length, Length.counted, Length.unknown, Length.unsaid, Stop.stop, ExtEnd, ExtEnd.nothing, ExtEnd.later, ExtEnd.earlier, ProteinEdit.subst, ProteinEdit.substUnknown, ProteinEdit.equal, ProteinEdit.del, ProteinEdit.dup, ProteinEdit.ins, ProteinEdit.delIns, ProteinEdit.fs, ProteinEdit.ext, printTerminal, printLength, printStop, printFsEnd, printExtEnd, printProteinEdit}
+use Rattle.grammar.specs.ProteinEdits.{Terminal, Length, Length.counted, Length.unknown, Length.unsaid, Stop.stop, ExtEnd, ExtEnd.nothing, ExtEnd.later, ExtEnd.earlier, ProteinEdit.equal, ProteinEdit.del, ProteinEdit.dup, ProteinEdit.ins, ProteinEdit.delIns, ProteinEdit.fs, ProteinEdit.ext, printTerminal, printLength, printStop, printFsEnd, printExtEnd, printProteinEdit}
 use Rattle.grammar.specs.Values.{ProteinEditV.substV}
 use Rattle.lang.specs.Choice.{orNext}
 use Rattle.lang.specs.Canon.{mapO, bothO}
-use Rattle.protein_edits.specs.Canon.{canonTerminal, canonLength, canonStop, canonFsEnd, canonEarlier, canonExtEnd, canonProteinEdit}
-use Rattle.emit.specs.declared.Word.{Word}
-use Rattle.emit.specs.declared.Word.the-variants.{Empty, Del, Ins, DelIns, Dup, Fs, Ext, Equal}
-use Rattle.emit.specs.declared.Mark.{Mark}
-use Rattle.emit.specs.declared.Mark.the-variants.{Nothing, Byte}
-use Rattle.emit.specs.declared.Row.{Row}
-use Rattle.emit.specs.Words.{wordText}
-use Rattle.emit.specs.Texts.{noSpan, markText, amountText, rowText}
-use Rattle.emit.specs.Laws.{no-part}
+use Rattle.protein_edits.specs.Canon.{canonLength, canonStop, canonFsEnd, canonEarlier, canonExtEnd, canonProteinEdit}
+use Rattle.emit_word.specs.declared.Word.{Word}
+use Rattle.emit_word.specs.declared.Word.the-variants.{Empty, Del, Ins, DelIns, Dup, Fs, Ext, Equal}
+use Rattle.emit_piece.specs.declared.Mark.{Mark}
+use Rattle.emit_piece.specs.declared.Mark.the-variants.{Nothing, Byte}
+use Rattle.emit_row.specs.declared.Row.{Row}
+use Rattle.emit_word.specs.Words.{wordText}
+use Rattle.emit_piece.specs.Texts.{noSpan, markText, amountText}
+use Rattle.emit_row.specs.Texts.{rowText}
+use Rattle.emit_piece.specs.Laws.{no-part}
 use Rattle.rows.specs.Rows.{planText, rowIf, lettersRow, isUnsigned}
 use Rattle.rows.specs.declared.RowPlan.the-variants.{Text}
 use Rattle.rows.specs.Laws.{letters-text, word-text, word-alone, either, row-text, row-if, unsigned-digits}
-use Rattle.plan_protein_edit.specs.Plan.{spanOf, amountOf, jointOf, endRow, isNegated, isLength, isTerminal, isOptionalPart, isStop, isEarlier, planFs, planExt, isSubst, planSubst, planProteinEdit}
-
--- where a test holds, a tree is found that prints as the text; else none
-data Found {A : Type 0} (print : A → List ℕ) (text : List ℕ) : Bool → Option A → Type 0 where
-  yes : (a : A) → print a ≡ text → Found print text true (some a)
-  no : Found print text false none
-
-found-if : {A : Type 0} (print : A → List ℕ) (b : Bool) (a : A) → Found print (print a) b (cond b (some a) none)
-found-if print true a = yes a refl
-found-if print false a = no
-
--- a larger tree, whose text has that of its part in it
-module _ {A B : Type 0} (inner : A → List ℕ) (outer : B → List ℕ) (make : A → B) (around : List ℕ → List ℕ) (h : (a : A) → outer (make a) ≡ around (inner a)) where
-  found-map : {text : List ℕ} {b : Bool} {o : Option A} → Found inner text b o → Found outer (around text) b (mapO make o)
-  found-map (yes a e) = yes (make a) (h a ∙ ap around e)
-  found-map no = no
+use Rattle.protein_edit_tests.specs.Tests.{isNegated, isTerminal, isOptionalPart, isSubst}
+use Rattle.protein_edit_tests.specs.Found.{Found, Found.yes, Found.no, found-if, found-map, terminal-found, itself, negated-found, subst-found}
+use Rattle.plan_protein_edit.specs.Plan.{spanOf, amountOf, jointOf, endRow, isLength, isStop, isEarlier, planFs, planExt, planSubst, planProteinEdit}
 
 map-next : {A B : Type 0} (f : A → B) (o u : Option A) → mapO f (orNext o u) ≡ orNext (mapO f o) (mapO f u)
 map-next f none u = refl
 map-next f (some a) u = refl
 
--- ---- terminals and lengths
-terminal-found : (w : List ℕ) → Found printTerminal w (isTerminal w) (canonTerminal w)
-unfolding isTerminal canonTerminal
-terminal-found w = go (same w (ascii "Ter")) (same w (ascii "X")) (same w (ascii "*")) refl refl refl
-  where
-    go : (a b c : Bool) → same w (ascii "Ter") ≡ a → same w (ascii "X") ≡ b → same w (ascii "*") ≡ c → Found printTerminal w (isTerminal w) (canonTerminal w)
-    go true b c e f g = rw (e, isTerminal, canonTerminal) (yes ter (sym (same-true w (ascii "Ter") e)))
-    go false true c e f g = rw (e, f, isTerminal, canonTerminal) (yes x (sym (same-true w (ascii "X") f)))
-    go false false true e f g = rw (e, f, g, isTerminal, canonTerminal) (yes star (sym (same-true w (ascii "*") g)))
-    go false false false e f g = rw (e, f, g, isTerminal, canonTerminal) no
-
-abbrev itself : List ℕ → List ℕ
-itself t = t
-
+-- ---- lengths and stops
 unsigned-found : (z : ℤ) → Found itself (dec (natAbs z)) (isUnsigned z) (unsignedDigits z)
 unsigned-found z = rw (unsigned-digits z) (found-if itself (isUnsigned z) (dec (natAbs z)))
-
-negated-found : (z : ℤ) → Found itself (dec (natAbs z)) (isNegated z) (negatedDigits z)
-negated-found (pos zero) = yes (dec 0) refl
-negated-found (pos (suc v)) = no
-negated-found (negsuc v) = found-if itself (isNegated (negsuc v)) (dec (suc v))
 
 abbrev lengthText : UncertainLengthChange → List ℕ
 lengthText n = amountText (amountOf n) ++ wordText (jointOf n)
@@ -108,14 +77,6 @@ ext-end none None = refl
 ext-end none Unknown = refl
 ext-end none (Known z) = refl
 ext-end (some w) n = refl
-
-subst-found : (a : List ℕ) → Found printProteinEdit a (isResidue a || same a (ascii "?")) (canonProteinEdit (substV a))
-subst-found a = go (isResidue a) (same a (ascii "?")) refl refl
-  where
-    go : (b c : Bool) → isResidue a ≡ b → same a (ascii "?") ≡ c → Found printProteinEdit a (isResidue a || same a (ascii "?")) (canonProteinEdit (substV a))
-    go true c e f = rw e (yes (subst a) refl)
-    go false true e f = rw (e, f) (yes substUnknown (sym (same-true a (ascii "?") f)))
-    go false false e f = rw (e, f) no
 
 module _ (s : List ℕ) where
   -- ---- the ends of `fs` and `ext`

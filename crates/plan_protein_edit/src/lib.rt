@@ -1,8 +1,8 @@
-// Which text is to be written for a protein edit: a row of the engine's, or none.
-use emit::Amount;
-use emit::Mark;
-use emit::Row;
-use emit::Word;
+// Which text is to be written for a protein edit: a row of pieces, or none.
+use emit_piece::Amount;
+use emit_piece::Mark;
+use emit_row::Row;
+use emit_word::Word;
 use record::edits::ProteinEdit;
 use record::edits::UncertainLengthChange;
 use record::spans::Part;
@@ -10,7 +10,7 @@ use record::spans::Span;
 use rows::RowPlan;
 ghost use mathlib.Core.Path.{_≡_};
 ghost use Rattle.alphabet.specs.Cells.{IsTable};
-ghost use Rattle.plan_protein_edit.specs.Plan.{spanOf, amountOf, jointOf, endRow, isNegated, isLength, isNone, isTerminal, isOptionalPart, isTerminalWith, isStop, isEarlier, planFs, planExt, isSubst, planSubst, planResidues, planProteinEdit};
+ghost use Rattle.plan_protein_edit.specs.Plan.{spanOf, amountOf, jointOf, endRow, isLength, isNone, isTerminalWith, isStop, isEarlier, planFs, planExt, planSubst, planResidues, planProteinEdit};
 
 // ---- what stands in the row
 
@@ -60,16 +60,6 @@ fn end_row(residue: Part, word: Word, end: Part, sign: Mark, n: UncertainLengthC
 
 // ---- tests
 
-// The negative of unsigned digits may be this number.
-fn is_negated(n: i32) -> bool
-    ensures { λ r. ⌜ r ≡ isNegated n ⌝ }
-{
-    if n <= 0 {
-        return -2147483647 <= n;
-    }
-    false
-}
-
 fn is_length(n: UncertainLengthChange) -> bool
     ensures { λ r. ⌜ r ≡ isLength n ⌝ }
 {
@@ -90,33 +80,10 @@ fn is_none(n: UncertainLengthChange) -> bool
     }
 }
 
-fn is_terminal(w: &[u8]) -> bool
-    ensures { λ r. ⌜ r ≡ isTerminal (now (w .entry)) ⌝ }
-{
-    if rows::same_bytes(w, b"Ter") {
-        return true;
-    }
-    if rows::same_bytes(w, b"X") {
-        return true;
-    }
-    rows::same_bytes(w, b"*")
-}
-
-// A residue, or none.
-fn is_optional(table: &[u8; 256], source: &[u8], residue: Part) -> bool
-    requires { ⌜ IsTable (now table) ⌝ }
-    ensures { λ r. ⌜ r ≡ isOptionalPart (now (source .entry)) residue ⌝ }
-{
-    match residue {
-        Part::Absent => true,
-        Part::Present(p) => residue::is_residue(table, parts::part_of(source, p)),
-    }
-}
-
 fn is_terminal_with(source: &[u8], p: Span, n: UncertainLengthChange) -> bool
     ensures { λ r. ⌜ r ≡ isTerminalWith (now (source .entry)) p n ⌝ }
 {
-    if is_terminal(parts::part_of(source, p)) {
+    if protein_edit_tests::is_terminal(parts::part_of(source, p)) {
         return is_length(n);
     }
     false
@@ -141,24 +108,12 @@ fn is_earlier(table: &[u8; 256], source: &[u8], end: Part, n: UncertainLengthCha
         UncertainLengthChange::None => false,
         UncertainLengthChange::Unknown => false,
         UncertainLengthChange::Known(z) => {
-            if is_optional(table, source, end) {
-                return is_negated(z);
+            if protein_edit_tests::is_optional(table, source, end) {
+                return protein_edit_tests::is_negated(z);
             }
             false
         }
     }
-}
-
-// A residue, or `?`.
-fn is_subst(table: &[u8; 256], source: &[u8], p: Span) -> bool
-    requires { ⌜ IsTable (now table) ⌝ }
-    ensures { λ r. ⌜ r ≡ isSubst (now (source .entry)) p ⌝ }
-{
-    let bytes = parts::part_of(source, p);
-    if residue::is_residue(table, bytes) {
-        return true;
-    }
-    rows::same_bytes(bytes, b"?")
 }
 
 // ---- plans
@@ -173,7 +128,7 @@ fn plan_fs(
     requires { ⌜ IsTable (now table) ⌝ }
     ensures { λ r. ⌜ r ≡ planFs (now (source .entry)) residue end n ⌝ }
 {
-    if !is_optional(table, source, residue) {
+    if !protein_edit_tests::is_optional(table, source, residue) {
         return RowPlan::NoText;
     }
     rows::row_if(
@@ -192,7 +147,7 @@ fn plan_ext(
     requires { ⌜ IsTable (now table) ⌝ }
     ensures { λ r. ⌜ r ≡ planExt (now (source .entry)) residue end n ⌝ }
 {
-    if !is_optional(table, source, residue) {
+    if !protein_edit_tests::is_optional(table, source, residue) {
         return RowPlan::NoText;
     }
     if is_stop(source, end, n) {
@@ -209,7 +164,7 @@ fn plan_subst(table: &[u8; 256], source: &[u8], p: Span) -> RowPlan
     ensures { λ r. ⌜ r ≡ planSubst (now (source .entry)) p ⌝ }
 {
     rows::row_if(
-        is_subst(table, source, p),
+        protein_edit_tests::is_subst(table, source, p),
         rows::letters_row(p, Word::Empty, rows::no_span()),
     )
 }

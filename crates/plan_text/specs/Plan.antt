@@ -16,8 +16,8 @@ use Rattle.record.specs.declared.variant.HgvsVariant.{HgvsVariant}
 use Rattle.grammar.specs.Contents.{headerContent}
 use Rattle.headers.specs.Canonical.{canonHeader}
 use Rattle.record_location.specs.Locations.{anyLocation}
-use Rattle.emit.specs.declared.Mark.the-variants.{Nothing, Byte}
-use Rattle.emit.specs.Texts.{noSpan}
+use Rattle.emit_piece.specs.declared.Mark.the-variants.{Nothing, Byte}
+use Rattle.emit_piece.specs.Texts.{noSpan}
 use Rattle.draft.specs.declared.Heading.{Heading}
 use Rattle.plan_header.specs.HeaderText.{isSome}
 use Rattle.plan_na_body.specs.declared.BodyPlan.{BodyPlan}

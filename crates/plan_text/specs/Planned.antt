@@ -29,7 +29,7 @@ use Rattle.promise.specs.Outcome.{limit}
 use Rattle.promise.specs.Writing.{ReadsAsValue, Sound, Unsound}
 use Rattle.canon.specs.TextCanon.{canonBody, canonText, text-some, text-none}
 use Rattle.canon.specs.Wording.{bodyWords, Wanted, words-wanted}
-use Rattle.emit.specs.Laws.{no-part}
+use Rattle.emit_piece.specs.Laws.{no-part}
 use Rattle.draft.specs.declared.Heading.{Heading}
 use Rattle.draft.specs.declared.Draft.{Draft}
 use Rattle.draft.specs.Texts.{headingText, bodyText, draftText}

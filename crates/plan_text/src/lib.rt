@@ -1,7 +1,7 @@
 // What is to be written for a whole record, where it has a text: header, kind and body.
 use draft::Draft;
 use draft::Heading;
-use emit::Mark;
+use emit_piece::Mark;
 use plan_na_body::BodyPlan;
 use read_location::Location;
 use record::edits::MuNaEdit;

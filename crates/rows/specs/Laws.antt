@@ -10,11 +10,11 @@ use Rattle.number.specs.Written.{unsignedDigits}
 use Rattle.record.specs.declared.spans.Span.{Span}
 use Rattle.grammar.specs.Spans.{part}
 use Rattle.lang.specs.Canon.{mapO}
-use Rattle.emit.specs.declared.Word.{Word}
-use Rattle.emit.specs.declared.Row.{Row}
-use Rattle.emit.specs.Words.{wordText}
-use Rattle.emit.specs.Texts.{rowText}
-use Rattle.emit.specs.Laws.{no-part}
+use Rattle.emit_word.specs.declared.Word.{Word}
+use Rattle.emit_row.specs.declared.Row.{Row}
+use Rattle.emit_word.specs.Words.{wordText}
+use Rattle.emit_row.specs.Texts.{rowText}
+use Rattle.emit_piece.specs.Laws.{no-part}
 use Rattle.rows.specs.declared.RowPlan.{RowPlan}
 use Rattle.rows.specs.declared.RowPlan.the-variants.{NoText, Text}
 use Rattle.rows.specs.Rows.{planText, rowIf, lettersRow, wordRow, wordAlone, isUnsigned}

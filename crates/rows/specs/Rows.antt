@@ -7,12 +7,13 @@ use lib.IntN.{ℤ, pos, negsuc}
 use Rattle.number.specs.Reading.{fits}
 use Rattle.number.specs.declared.Sign.the-variants.{Plain}
 use Rattle.record.specs.declared.spans.Span.{Span}
-use Rattle.emit.specs.declared.Word.{Word}
-use Rattle.emit.specs.declared.Word.the-variants.{Empty}
-use Rattle.emit.specs.declared.Mark.the-variants.{Nothing}
-use Rattle.emit.specs.declared.Amount.the-variants.{Absent}
-use Rattle.emit.specs.declared.Row.{Row}
-use Rattle.emit.specs.Texts.{noSpan, rowText}
+use Rattle.emit_word.specs.declared.Word.{Word}
+use Rattle.emit_word.specs.declared.Word.the-variants.{Empty}
+use Rattle.emit_piece.specs.declared.Mark.the-variants.{Nothing}
+use Rattle.emit_piece.specs.declared.Amount.the-variants.{Absent}
+use Rattle.emit_row.specs.declared.Row.{Row}
+use Rattle.emit_piece.specs.Texts.{noSpan}
+use Rattle.emit_row.specs.Texts.{rowText}
 use Rattle.rows.specs.declared.RowPlan.{RowPlan}
 use Rattle.rows.specs.declared.RowPlan.the-variants.{NoText, Text}
 

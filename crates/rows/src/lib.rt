@@ -1,12 +1,12 @@
 // What the planners of edits share: a row or no text, rows of letters, and the numbers that may be written.
-use emit::Amount;
-use emit::Mark;
-use emit::Row;
-use emit::Word;
+use emit_piece::Amount;
+use emit_piece::Mark;
+use emit_row::Row;
+use emit_word::Word;
 use record::spans::Span;
 ghost use mathlib.Core.Path.{_≡_};
 ghost use Rattle.texts.specs.Words.{same};
-ghost use Rattle.emit.specs.Texts.{noSpan};
+ghost use Rattle.emit_piece.specs.Texts.{noSpan};
 ghost use Rattle.rows.specs.Rows.{rowIf, lettersRow, wordRow, wordAlone, isUnsigned};
 
 // The row whose text is to be written, where there is one.

@@ -2,7 +2,7 @@ use mathlib.Core.Path.{ap}
 use mir.Facts.{toZ-ofZ}
 use mir.Syntax.{w32}
 use mir.Val.{SFits}
-use Rattle.emit.specs.declared.Amount.the-variants.{Count}
+use Rattle.emit_piece.specs.declared.Amount.the-variants.{Count}
 use Rattle.plan_location.proofs.Laws.{held-true}
 use borrow.Author.Needs.{needs}
 use Rattle.plan_location.proofs.offset_amount.Statement.{statement}

@@ -1,0 +1,53 @@
+use mathlib.Core.Path.{sym, _∙_}
+use Rattle.plan_no_ref.specs.NoRef.{noRefAlt}
+use borrow.Author.Needs.{needs}
+use Rattle.plan_no_ref.proofs.no_ref_alt.Statement.{statement}
+use Rattle.plan_no_ref.proofs.no_ref_alt.Tie as tie
+
+same-parts-requires : tie.Need-same-parts-requires
+same-parts-requires c κs = search needs
+
+word-alone-requires : tie.Need-word-alone-requires
+word-alone-requires c κs = search needs
+
+returns : tie.Need-returns
+unfolding noRefAlt
+returns c =
+    let t = c .before in
+    rw (sym (t .before .same-parts .ensures) ∙ t .if1 .taken) (c .word-alone .ensures)
+
+ones-parts-requires : tie.Need-ones-parts-requires
+ones-parts-requires c κs = search needs
+
+letters-row-requires : tie.Need-letters-row-requires
+letters-row-requires c κs = search needs
+
+returns-2 : tie.Need-returns-2
+unfolding noRefAlt
+returns-2 c =
+    let t = c .before in
+    let e = t .before .before in
+    rw (sym (e .before .same-parts .ensures) ∙ e .if1 .left, sym (t .before .ones-parts .ensures) ∙ t .if2 .taken) (c .letters-row .ensures)
+
+word-row-requires : tie.Need-word-row-requires
+word-row-requires c κs = search needs
+
+returns-3 : tie.Need-returns-3
+unfolding noRefAlt
+returns-3 c =
+    let t = c .before in
+    let e = t .before .before in
+    rw (sym (e .before .same-parts .ensures) ∙ e .if1 .left, sym (t .before .ones-parts .ensures) ∙ t .if2 .left) (c .word-row .ensures)
+
+pub no-ref-alt-spec : {M : Type 1} → statement M
+no-ref-alt-spec =
+    tie.close
+    (tie.spec
+    same-parts-requires
+    word-alone-requires
+    returns
+    ones-parts-requires
+    letters-row-requires
+    returns-2
+    word-row-requires
+    returns-3)

@@ -1,0 +1,53 @@
+-- The row to be written for a nucleotide edit without the reference, and that its text is the one promised.
+use Prim.Native.Nat.{ℕ}
+use mathlib.Core.Path.{_≡_, refl}
+use mathlib.Core.List.{List}
+use mathlib.Core.Bool.{Bool, true, false, cond}
+use Rattle.record.specs.declared.spans.Span.{Span}
+use Rattle.record.specs.declared.edits.NaEdit.{NaEdit}
+use Rattle.record.specs.declared.edits.NaEdit.the-variants as Na
+use Rattle.grammar.specs.Contents.{naEditContent}
+use Rattle.promise.specs.NoRef.{noRefEdit}
+use Rattle.emit_word.specs.declared.Word.the-variants.{Del, Ins, DelIns, Dup, Inv, Equal, Greater}
+use Rattle.emit_row.specs.declared.Row.{Row}
+use Rattle.emit_row.specs.Texts.{rowText}
+use Rattle.rows.specs.Rows.{lettersRow, wordRow, wordAlone}
+use Rattle.rows.specs.Laws.{letters-text, word-text, word-alone}
+use Rattle.na_edit_tests.specs.Tests.{sameParts, onesParts}
+
+module _ (s : List ℕ) where
+  unfoldable pub noRefAlt : Span → Span → Row
+  noRefAlt p q =
+      cond (sameParts s p q) (wordAlone Equal)
+      (cond (onesParts s p q) (lettersRow p Greater q) (wordRow DelIns q))
+
+  abbrev pub noRefRow : NaEdit → Row
+  noRefRow (Na.RefAlt p q) = noRefAlt p q
+  noRefRow (Na.NumAlt n q) = wordRow DelIns q
+  noRefRow (Na.DelRef p) = wordAlone Del
+  noRefRow (Na.DelNum n) = wordAlone Del
+  noRefRow (Na.Ins q) = wordRow Ins q
+  noRefRow (Na.Dup p) = wordAlone Dup
+  noRefRow (Na.InvRef p) = wordAlone Inv
+  noRefRow (Na.InvNum n) = wordAlone Inv
+
+-- ---- its text
+module _ (s : List ℕ) where
+  no-ref-alt : (p q : Span) → rowText s (noRefAlt s p q) ≡ noRefEdit (naEditContent s (Na.RefAlt p q))
+  unfolding noRefAlt
+  no-ref-alt p q = go (sameParts s p q) (onesParts s p q) refl refl
+    where
+      go : (t u : Bool) → sameParts s p q ≡ t → onesParts s p q ≡ u → rowText s (noRefAlt s p q) ≡ noRefEdit (naEditContent s (Na.RefAlt p q))
+      go true u e f = rw (e, noRefAlt) (word-alone s Equal)
+      go false true e f = rw (e, f, noRefAlt) (letters-text s p Greater q)
+      go false false e f = rw (e, f, noRefAlt) (word-text s DelIns q)
+
+  pub no-ref-text : (e : NaEdit) → rowText s (noRefRow s e) ≡ noRefEdit (naEditContent s e)
+  no-ref-text (Na.RefAlt p q) = no-ref-alt p q
+  no-ref-text (Na.NumAlt n q) = word-text s DelIns q
+  no-ref-text (Na.DelRef p) = word-alone s Del
+  no-ref-text (Na.DelNum n) = word-alone s Del
+  no-ref-text (Na.Ins q) = word-text s Ins q
+  no-ref-text (Na.Dup p) = word-alone s Dup
+  no-ref-text (Na.InvRef p) = word-alone s Inv
+  no-ref-text (Na.InvNum n) = word-alone s Inv
