@@ -7,7 +7,7 @@
  * and output do not overlap. A length of 0 is fine; the pointer is then not read but must not be NULL.
  *
  * number  0  accepted
- *         1  the text has more than 4,096 bytes (or the text to be written would have)
+ *         1  the text has more than 4,096 bytes
  *         2  the text is not in the grammar
  *         3  a number in the text does not fit; place is the index of its first digit
  *         6  the output is shorter than the text to be written; 4,096 bytes are always enough

@@ -1,9 +1,13 @@
 #!/usr/bin/env bash
 # Builds the parser of the hgvs crate, unchanged, into oracle/build.
-#   oracle/setup.sh [FOLDER]    FOLDER holds the crate's src/parser (default: shared/docs/src beside the repository)
+#   oracle/setup.sh FOLDER    FOLDER holds the crate's src/parser
 set -euo pipefail
 
-sources=$(realpath -m "${1:-$(dirname "$0")/../../shared/docs/src}")
+if [ $# -ne 1 ]; then
+  echo "usage: oracle/setup.sh FOLDER, which holds the src/parser of the Rust crate hgvs 4.0.1" >&2
+  exit 2
+fi
+sources=$(realpath -m "$1")
 cd "$(dirname "$0")"
 
 registry=/usr/share/cargo/registry
@@ -25,7 +29,7 @@ folder_of_parser() {
       return
     fi
   done
-  stop "missing: the crate's parser files, neither in $sources/src/parser nor in $sources; name their folder: oracle/setup.sh FOLDER"
+  stop "missing: the crate's parser files, neither in $sources/src/parser nor in $sources"
 }
 
 install_packages() {

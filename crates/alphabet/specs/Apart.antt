@@ -1,12 +1,12 @@
--- How the alphabets lie to each other: what passes one test and what therefore not.
-use Prim.Native.Nat.{ℕ, _≤_, _<_}
+-- How the alphabets lie to each other: what passes one test and what therefore not; and that they are ASCII.
+use Prim.Native.Nat.{ℕ, _≤_}
 use mathlib.Core.Path.{_≡_, refl}
 use mathlib.Core.Bool.{Bool, true, false, not, _&&_}
 use mathlib.Core.List.{List, [], _∷_, _++_}
 use mathlib.Core.Logic.{⊎-elim}
 use native.Mathlib.Omega.{arith}
-use lib.Dec.{eqb, leb}
-use borrow.Author.Tests.{eqb-true, leb-true, not-true}
+use lib.Dec.{eqb, leb, ltb}
+use borrow.Author.Tests.{eqb-true, leb-true, lt-ltb, not-true}
 use Rattle.texts.specs.Ascii.{ascii}
 use Rattle.texts.specs.Runs.{every}
 use Rattle.texts.specs.Tests.{and-true, or-true, never, clash}
@@ -29,6 +29,10 @@ among-none p b xs e h = not-true (p b) (among-every (λ x. not (p x)) b xs e h)
 -- a byte that passes is none of a list of which no byte passes
 pub none-among : (p : ℕ → Bool) (b : ℕ) (xs : List ℕ) → every (λ x. not (p x)) xs ≡ true → p b ≡ true → among b xs ≡ false
 none-among p b xs e h = never (among b xs) (λ q. clash h (among-none p b xs e q))
+
+-- a byte below 128
+unfoldable pub isAscii : ℕ → Bool
+isAscii b = ltb b 128
 
 module _ (b : ℕ) where
   -- ---- digits and letters
@@ -61,16 +65,18 @@ module _ (b : ℕ) where
   residue-bound h = leb-true b 90 (among-every (λ x. leb x 90) b (ascii "ACDEFGHIKLMNPQRSTVWYBZXU" ++ ascii "*") refl h)
 
   -- ---- no byte of 128 or above
-  pub digit-ascii : digit b ≡ true → b < 128
-  digit-ascii h = omega (arith, digit-bounds h)
+  digit-ascii : digit b ≡ true → isAscii b ≡ true
+  unfolding isAscii
+  digit-ascii h = lt-ltb b 128 (omega (arith, digit-bounds h))
 
-  pub letter-ascii : letter b ≡ true → b < 128
-  letter-ascii h = omega (arith, letter-bounds h)
+  letter-ascii : letter b ≡ true → isAscii b ≡ true
+  unfolding isAscii
+  letter-ascii h = lt-ltb b 128 (omega (arith, letter-bounds h))
 
-  pub member-ascii : (class : Class) → member class b ≡ true → b < 128
-  unfolding member alphanumeric
+  pub member-ascii : (class : Class) → member class b ≡ true → isAscii b ≡ true
+  unfolding member alphanumeric isAscii
   member-ascii Digit h = digit-ascii h
   member-ascii Letter h = letter-ascii h
   member-ascii Alphanumeric h = ⊎-elim (λ q. letter-ascii q) (λ q. digit-ascii q) (or-true (letter b) (digit b) h)
   member-ascii Nucleotide h = letter-ascii (nucleotide-letter h)
-  member-ascii Residue h = omega (arith, residue-bound h)
+  member-ascii Residue h = lt-ltb b 128 (omega (arith, residue-bound h))

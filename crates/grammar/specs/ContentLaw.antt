@@ -1,4 +1,4 @@
--- The content of a tree's record is the tree's meaning, wherever its text stands; and its spans lie in the source.
+-- The content of a tree's record is the tree's meaning, wherever its text stands.
 use Prim.Native.Nat.{ℕ, _+_}
 use mathlib.Core.Path.{_≡_, refl, ap, _∙_}
 use mathlib.Core.List.{List, [], _∷_, _++_}

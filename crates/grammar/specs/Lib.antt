@@ -18,3 +18,4 @@ pub mod Standing
 pub mod ContentLaw
 pub mod SpanLaw
 pub mod PlaceLaw
+pub mod AsciiLaw

@@ -23,7 +23,6 @@ use Rattle.record.specs.declared.positions.TxPos.{TxPos}
 use Rattle.record.specs.declared.positions.RnaPos.{RnaPos}
 use Rattle.record.specs.declared.edits.UncertainLengthChange.{UncertainLengthChange}
 use Rattle.record.specs.declared.edits.UncertainLengthChange.the-variants.{None, Unknown, Known}
-use Rattle.grammar.specs.Header as H
 use Rattle.grammar.specs.Header.{Header, Header.header, printAccession}
 use Rattle.grammar.specs.Positions.{Mark, Mark.bare, Mark.plus, Mark.minus, Mark.star, Offset, Offset.absent, Offset.ahead, Offset.back, Based, Based.based, Genomic, Genomic.known, Genomic.unknown, Residual, Residual.residual, Position}
 use Rattle.grammar.specs.Shapes.{Interval, Interval.one, Interval.two, Mu, Mu.certain, Mu.uncertain, Both, Both.both}

@@ -1,6 +1,6 @@
--- The place of a number that does not fit lies in the source in which the tree's text stands.
+-- The digits of a number that does not fit stand at its place in the source in which the tree's text stands.
 use Prim.Native.Nat.{ℕ, _+_, _≤_}
-use mathlib.Core.Path.{_≡_}
+use mathlib.Core.Path.{_≡_, refl}
 use mathlib.Core.List.{List, [], _∷_, _++_}
 use mathlib.Core.Option.{Option, none, some}
 use mathlib.Core.Bool.{Bool, true, false, cond}
@@ -8,152 +8,172 @@ use native.Mathlib.Omega.{arith}
 use lib.ListN.{length}
 use Rattle.texts.specs.Ascii.{ascii}
 use Rattle.texts.specs.Tests.{none-some}
+use Rattle.number.specs.declared.Sign.{Sign}
 use Rattle.number.specs.Digits.{val}
 use Rattle.number.specs.Reading.{fits}
 use Rattle.record.specs.declared.variant.Kind.{Kind}
 use Rattle.record.specs.declared.variant.Kind.the-variants.{Cds, Genome, Mt, Tx, Prot, Rna}
 use Rattle.grammar.specs.Header.{printHeader, printKind}
-use Rattle.grammar.specs.Positions.{Offset, Offset.absent, Offset.ahead, Offset.back, Based, Based.based, Genomic, Genomic.known, Genomic.unknown, Residual, Residual.residual, Position, printMark, printOffset, printBased, printGenomic, printResidual, printPosition}
-use Rattle.grammar.specs.Shapes.{Interval.one, Interval.two, Mu, Mu.certain, Mu.uncertain, Both.both, printMu}
-use Rattle.grammar.specs.NucleotideEdits.{NaEdit, NaEdit.equal, NaEdit.swap, NaEdit.delIns, NaEdit.delNumIns, NaEdit.delNum, NaEdit.del, NaEdit.ins, NaEdit.dup, NaEdit.invNum, NaEdit.inv, printNaEdit}
+use Rattle.grammar.specs.Positions.{Offset, Offset.absent, Offset.ahead, Offset.back, Based, Based.based, Genomic, Genomic.known, Genomic.unknown, Residual.residual, Position, printMark, printOffset, printBased, printGenomic, printPosition, Digits, WfOffset, WfBased, WfGenomic, WfPosition}
+use Rattle.grammar.specs.Shapes.{Interval.one, Interval.two, Mu, Mu.certain, Mu.uncertain, Both.both, printMu, WfMu}
+use Rattle.grammar.specs.NucleotideEdits.{NaEdit, NaEdit.equal, NaEdit.swap, NaEdit.delIns, NaEdit.delNumIns, NaEdit.delNum, NaEdit.del, NaEdit.ins, NaEdit.dup, NaEdit.invNum, NaEdit.inv, printNaEdit, WfNaEdit}
 use Rattle.grammar.specs.Optional.{printOptional}
 use Rattle.grammar.specs.ProteinEdits as P
-use Rattle.grammar.specs.ProteinEdits.{ProteinEdit, Length, Length.counted, Length.unsaid, Stop, Stop.stop, ExtEnd, ExtEnd.nothing, ExtEnd.later, ExtEnd.earlier, printTerminal, printStop, printFsEnd, printExtEnd, printProteinEdit}
-use Rattle.grammar.specs.Bodies.{Ends, printEnds, printLocation, NaBody, ProteinBody, ProteinBody.met1, ProteinBody.bracketedMet1, ProteinBody.noProteinUncertain, ProteinBody.noProtein, ProteinBody.noChangeUncertain, ProteinBody.noChange, ProteinBody.unknown, ProteinBody.change, ProteinBody.bracketed, Body, printNaBody, printBody, printProteinBody}
-use Rattle.grammar.specs.Texts.{Text, Text.text, print}
-use Rattle.grammar.specs.Numbers.{Numeral, Numeral.numeral, misfit, offsetNumbers, basedNumbers, genomicNumbers, residualNumbers, positionNumbers, endsNumbers, muNumbers, naEditNumbers, stopNumbers, fsNumbers, extNumbers, proteinEditNumbers, naBodyNumbers, proteinBodyNumbers, bodyNumbers, numbersAt}
+use Rattle.grammar.specs.ProteinEdits.{ProteinEdit, Length, Length.counted, Length.unsaid, Stop, Stop.stop, ExtEnd, ExtEnd.nothing, ExtEnd.later, ExtEnd.earlier, printTerminal, printStop, printFsEnd, printExtEnd, printProteinEdit, WfStop, WfFsEnd, WfExtEnd, WfProteinEdit}
+use Rattle.grammar.specs.Bodies.{Ends, printEnds, WfEnds, printLocation, NaBody, ProteinBody, ProteinBody.met1, ProteinBody.bracketedMet1, ProteinBody.noProteinUncertain, ProteinBody.noProtein, ProteinBody.noChangeUncertain, ProteinBody.noChange, ProteinBody.unknown, ProteinBody.change, ProteinBody.bracketed, Body, printNaBody, WfNaBody, printBody, WfBody, printProteinBody, WfProteinBody}
+use Rattle.grammar.specs.Texts.{Text, Text.text, print, Wf}
+use Rattle.grammar.specs.Numbers.{Numeral, Numeral.numeral, misfit, offsetNumbers, basedNumbers, genomicNumbers, positionNumbers, endsNumbers, muNumbers, naEditNumbers, stopNumbers, fsNumbers, extNumbers, proteinEditNumbers, naBodyNumbers, proteinBodyNumbers, bodyNumbers, numbersAt}
 use Rattle.grammar.specs.Standing.{Stands, left, right, inner, stands-end, stands-whole}
 
+-- digits that do not fit with a sign stand in s at a place
+pub record Unfit (s : List ℕ) (place : ℕ) : Type 0 where
+  pub sign : Sign
+  pub digits : List ℕ
+  pub wf : Digits digits
+  pub stands : Stands s place digits
+  pub unfit : fits sign (val digits) ≡ false
+
 module _ (s : List ℕ) where
-  -- the place of each lies in the source
-  abbrev Within : List Numeral → Type 0
-  Within [] = Unit
-  Within (numeral place sign ds ∷ ns) = (place ≤ length s) × Within ns
+  record DigitsAt (place : ℕ) (ds : List ℕ) : Type 0 where
+    wf : Digits ds
+    stands : Stands s place ds
 
-  within-both : (ms ns : List Numeral) → Within ms → Within ns → Within (ms ++ ns)
-  within-both [] ns f g = g
-  within-both (numeral place sign ds ∷ ms) ns f g = (f .0, within-both ms ns (f .1) g)
+  -- the digits of each number stand at its place
+  abbrev Placed : List Numeral → Type 0
+  Placed [] = Unit
+  Placed (numeral place sign ds ∷ ns) = DigitsAt place ds × Placed ns
 
-  misfit-within : (ns : List Numeral) (place : ℕ) → Within ns → misfit ns ≡ some place → place ≤ length s
-  misfit-within [] place w e = absurd (none-some e)
-  misfit-within (numeral k sign ds ∷ ns) place w e = go (fits sign (val ds)) (misfit-within ns place (w .1)) e
+  placed-both : (ms ns : List Numeral) → Placed ms → Placed ns → Placed (ms ++ ns)
+  placed-both [] ns f g = g
+  placed-both (numeral place sign ds ∷ ms) ns f g = (f .0, placed-both ms ns (f .1) g)
+
+  placed-misfit : (ns : List Numeral) (place : ℕ) → Placed ns → misfit ns ≡ some place → Unfit s place
+  placed-misfit [] place w e = absurd (none-some e)
+  placed-misfit (numeral k sign ds ∷ ns) place w e = go (fits sign (val ds)) refl (placed-misfit ns place (w .1)) e
     where
-      go : (t : Bool) → (misfit ns ≡ some place → place ≤ length s) → cond t (misfit ns) (some k) ≡ some place → place ≤ length s
-      go true rest q = rest q
-      go false rest q = let j : k ≡ place = cc in omega (arith, w .0)
+      go : (t : Bool) → fits sign (val ds) ≡ t → (misfit ns ≡ some place → Unfit s place) → cond t (misfit ns) (some k) ≡ some place → Unfit s place
+      go true f rest q = rest q
+      go false f rest q =
+          let j : k ≡ place = cc in
+          rw (← j) (record { sign = sign; digits = ds; wf = w .0 .wf; stands = w .0 .stands; unfit = f })
 
-  -- a place at which something stands
-  at : {k : ℕ} {x : List ℕ} → Stands s k x → k ≤ length s
-  at h = omega (arith, stands-end h)
+  -- one number alone
+  only : {place : ℕ} {ds : List ℕ} → Digits ds → Stands s place ds → DigitsAt place ds × Placed []
+  only w h = (record { wf = w; stands = h }, tt)
 
   -- ---- positions
-  offset-within : (k : ℕ) (o : Offset) → Stands s k (printOffset o) → Within (offsetNumbers k o)
-  offset-within k absent h = tt
-  offset-within k (ahead ds) h = (at (right (ascii "+") h), tt)
-  offset-within k (back ds) h = (at (right (ascii "-") h), tt)
+  offset-placed : (k : ℕ) (o : Offset) → WfOffset o → Stands s k (printOffset o) → Placed (offsetNumbers k o)
+  offset-placed k absent w h = tt
+  offset-placed k (ahead ds) w h = only w (right (ascii "+") h)
+  offset-placed k (back ds) w h = only w (right (ascii "-") h)
 
-  based-within : (k : ℕ) (b : Based) → Stands s k (printBased b) → Within (basedNumbers k b)
-  based-within k (based m ds o) h = let d = right (printMark m) h in (at d, offset-within _ o (right ds d))
+  based-placed : (k : ℕ) (b : Based) → WfBased b → Stands s k (printBased b) → Placed (basedNumbers k b)
+  based-placed k (based m ds o) w h =
+      let d = right (printMark m) h in
+      (record { wf = w .0; stands = left ds _ d }, offset-placed _ o (w .1) (right ds d))
 
-  genomic-within : (k : ℕ) (g : Genomic) → Stands s k (printGenomic g) → Within (genomicNumbers k g)
-  genomic-within k (known ds) h = (at h, tt)
-  genomic-within k unknown h = tt
+  genomic-placed : (k : ℕ) (g : Genomic) → WfGenomic g → Stands s k (printGenomic g) → Placed (genomicNumbers k g)
+  genomic-placed k (known ds) w h = only w h
+  genomic-placed k unknown w h = tt
 
-  residual-within : (k : ℕ) (r : Residual) → Stands s k (printResidual r) → Within (residualNumbers k r)
-  residual-within k (residual r ds) h = (at (right r h), tt)
+  position-placed : (kind : Kind) (k : ℕ) (p : Position kind) → WfPosition kind p → Stands s k (printPosition kind p) → Placed (positionNumbers kind k p)
+  position-placed Cds k p w h = based-placed k p w h
+  position-placed Genome k p w h = genomic-placed k p w h
+  position-placed Mt k p w h = genomic-placed k p w h
+  position-placed Tx k (based m ds o) w h = based-placed k (based m ds o) (w .1) h
+  position-placed Prot k (residual r ds) w h = only (w .1) (right r h)
+  position-placed Rna k (based m ds o) w h = based-placed k (based m ds o) (w .1) h
 
-  position-within : (kind : Kind) (k : ℕ) (p : Position kind) → Stands s k (printPosition kind p) → Within (positionNumbers kind k p)
-  position-within Cds = based-within
-  position-within Genome = genomic-within
-  position-within Mt = genomic-within
-  position-within Tx = based-within
-  position-within Prot = residual-within
-  position-within Rna = based-within
+  ends-placed : (kind : Kind) (k : ℕ) (i : Ends kind) → WfEnds kind i → Stands s k (printEnds kind i) → Placed (endsNumbers kind k i)
+  ends-placed kind k (one p) w h = position-placed kind k p w h
+  ends-placed kind k (two p q) w h =
+      placed-both (positionNumbers kind k p) (positionNumbers kind (k + length (printPosition kind p) + 1) q) (position-placed kind k p (w .0) (left (printPosition kind p) _ h))
+      (position-placed kind (k + length (printPosition kind p) + 1) q (w .1) (right (ascii "_") (right (printPosition kind p) h)))
 
-  ends-within : (kind : Kind) (k : ℕ) (i : Ends kind) → Stands s k (printEnds kind i) → Within (endsNumbers kind k i)
-  ends-within kind k (one p) h = position-within kind k p h
-  ends-within kind k (two p q) h =
-      within-both (positionNumbers kind k p) (positionNumbers kind (k + length (printPosition kind p) + 1) q) (position-within kind k p (left (printPosition kind p) _ h))
-      (position-within kind (k + length (printPosition kind p) + 1) q (right (ascii "_") (right (printPosition kind p) h)))
-
-  mu-within : {A : Type 0} (show : A → List ℕ) (numbers : ℕ → A → List Numeral) → ((k : ℕ) (a : A) → Stands s k (show a) → Within (numbers k a))
-      → (k : ℕ) (a : Mu A) → Stands s k (printMu show a) → Within (muNumbers numbers k a)
-  mu-within show numbers f k (certain a) h = f k a h
-  mu-within show numbers f k (uncertain a) h = f (k + 1) a (inner h)
+  mu-placed : {A : Type 0} (show : A → List ℕ) (Right : A → Type 0) (numbers : ℕ → A → List Numeral) → ((k : ℕ) (a : A) → Right a → Stands s k (show a) → Placed (numbers k a))
+      → (k : ℕ) (a : Mu A) → WfMu Right a → Stands s k (printMu show a) → Placed (muNumbers numbers k a)
+  mu-placed show Right numbers f k (certain a) w h = f k a w h
+  mu-placed show Right numbers f k (uncertain a) w h = f (k + 1) a w (inner h)
 
   -- ---- edits
-  na-edit-within : (k : ℕ) (e : NaEdit) → Stands s k (printNaEdit e) → Within (naEditNumbers k e)
-  na-edit-within k (equal seq) h = tt
-  na-edit-within k (swap a b) h = tt
-  na-edit-within k (delIns seq seq1) h = tt
-  na-edit-within k (delNumIns ds seq1) h = (at (right (ascii "del") h), tt)
-  na-edit-within k (delNum ds) h = (at (right (ascii "del") h), tt)
-  na-edit-within k (del seq) h = tt
-  na-edit-within k (ins seq1) h = tt
-  na-edit-within k (dup seq) h = tt
-  na-edit-within k (invNum ds) h = (at (right (ascii "inv") h), tt)
-  na-edit-within k (inv seq) h = tt
+  na-edit-placed : (na : ℕ → Bool) (k : ℕ) (e : NaEdit) → WfNaEdit na e → Stands s k (printNaEdit e) → Placed (naEditNumbers k e)
+  na-edit-placed na k (equal seq) w h = tt
+  na-edit-placed na k (swap a b) w h = tt
+  na-edit-placed na k (delIns seq seq1) w h = tt
+  na-edit-placed na k (delNumIns ds seq1) w h = only (w .0) (left ds _ (right (ascii "del") h))
+  na-edit-placed na k (delNum ds) w h = only w (right (ascii "del") h)
+  na-edit-placed na k (del seq) w h = tt
+  na-edit-placed na k (ins seq1) w h = tt
+  na-edit-placed na k (dup seq) w h = tt
+  na-edit-placed na k (invNum ds) w h = only w (right (ascii "inv") h)
+  na-edit-placed na k (inv seq) w h = tt
 
-  stop-within : (k : ℕ) (e : Stop) → Stands s k (printStop e) → Within (stopNumbers k e)
-  stop-within k (stop t (counted ds)) h = (at (right (printTerminal t) h), tt)
-  stop-within k (stop t P.Length.unknown) h = tt
-  stop-within k (stop t unsaid) h = tt
+  stop-placed : (k : ℕ) (e : Stop) → WfStop e → Stands s k (printStop e) → Placed (stopNumbers k e)
+  stop-placed k (stop t (counted ds)) w h = only w (right (printTerminal t) h)
+  stop-placed k (stop t P.Length.unknown) w h = tt
+  stop-placed k (stop t unsaid) w h = tt
 
-  fs-within : (k : ℕ) (e : Option Stop) → Stands s k (printFsEnd e) → Within (fsNumbers k e)
-  fs-within k none h = tt
-  fs-within k (some e) h = stop-within k e h
+  fs-placed : (k : ℕ) (e : Option Stop) → WfFsEnd e → Stands s k (printFsEnd e) → Placed (fsNumbers k e)
+  fs-placed k none w h = tt
+  fs-placed k (some e) w h = stop-placed k e w h
 
-  ext-within : (k : ℕ) (e : ExtEnd) → Stands s k (printExtEnd e) → Within (extNumbers k e)
-  ext-within k nothing h = tt
-  ext-within k (later e) h = stop-within k e h
-  ext-within k (earlier r ds) h = (at (right (ascii "-") (right (printOptional [] r) h)), tt)
+  ext-placed : (k : ℕ) (e : ExtEnd) → WfExtEnd e → Stands s k (printExtEnd e) → Placed (extNumbers k e)
+  ext-placed k nothing w h = tt
+  ext-placed k (later e) w h = stop-placed k e w h
+  ext-placed k (earlier r ds) w h = only (w .1) (right (ascii "-") (right (printOptional [] r) h))
 
-  protein-edit-within : (k : ℕ) (e : ProteinEdit) → Stands s k (printProteinEdit e) → Within (proteinEditNumbers k e)
-  protein-edit-within k (P.ProteinEdit.subst r) h = tt
-  protein-edit-within k P.ProteinEdit.substUnknown h = tt
-  protein-edit-within k P.ProteinEdit.equal h = tt
-  protein-edit-within k P.ProteinEdit.del h = tt
-  protein-edit-within k P.ProteinEdit.dup h = tt
-  protein-edit-within k (P.ProteinEdit.ins rs) h = tt
-  protein-edit-within k (P.ProteinEdit.delIns rs) h = tt
-  protein-edit-within k (P.ProteinEdit.fs r e) h = fs-within _ e (right (ascii "fs") (right (printOptional [] r) h))
-  protein-edit-within k (P.ProteinEdit.ext r e) h = ext-within _ e (right (ascii "ext") (right (printOptional [] r) h))
+  protein-edit-placed : (k : ℕ) (e : ProteinEdit) → WfProteinEdit e → Stands s k (printProteinEdit e) → Placed (proteinEditNumbers k e)
+  protein-edit-placed k (P.ProteinEdit.subst r) w h = tt
+  protein-edit-placed k P.ProteinEdit.substUnknown w h = tt
+  protein-edit-placed k P.ProteinEdit.equal w h = tt
+  protein-edit-placed k P.ProteinEdit.del w h = tt
+  protein-edit-placed k P.ProteinEdit.dup w h = tt
+  protein-edit-placed k (P.ProteinEdit.ins rs) w h = tt
+  protein-edit-placed k (P.ProteinEdit.delIns rs) w h = tt
+  protein-edit-placed k (P.ProteinEdit.fs r e) w h = fs-placed _ e (w .1) (right (ascii "fs") (right (printOptional [] r) h))
+  protein-edit-placed k (P.ProteinEdit.ext r e) w h = ext-placed _ e (w .1) (right (ascii "ext") (right (printOptional [] r) h))
 
   -- ---- bodies, and the whole
-  na-body-within : (kind : Kind) (k : ℕ) (b : NaBody kind) → Stands s k (printNaBody kind b) → Within (naBodyNumbers kind k b)
-  na-body-within kind k (both l e) h =
-      within-both (muNumbers (endsNumbers kind) k l) (muNumbers naEditNumbers (k + length (printLocation kind l)) e)
-      (mu-within (printEnds kind) (endsNumbers kind) (ends-within kind) k l (left (printLocation kind l) _ h))
-      (mu-within printNaEdit naEditNumbers na-edit-within (k + length (printLocation kind l)) e (right (printLocation kind l) h))
+  na-body-placed : (na : ℕ → Bool) (kind : Kind) (k : ℕ) (b : NaBody kind) → WfNaBody na kind b → Stands s k (printNaBody kind b) → Placed (naBodyNumbers kind k b)
+  na-body-placed na kind k (both l e) w h =
+      placed-both (muNumbers (endsNumbers kind) k l) (muNumbers naEditNumbers (k + length (printLocation kind l)) e)
+      (mu-placed (printEnds kind) (WfEnds kind) (endsNumbers kind) (ends-placed kind) k l (w .0) (left (printLocation kind l) _ h))
+      (mu-placed printNaEdit (WfNaEdit na) naEditNumbers (na-edit-placed na) (k + length (printLocation kind l)) e (w .1) (right (printLocation kind l) h))
 
-  protein-body-within : (k : ℕ) (b : ProteinBody) → Stands s k (printProteinBody b) → Within (proteinBodyNumbers k b)
-  protein-body-within k met1 h = tt
-  protein-body-within k bracketedMet1 h = tt
-  protein-body-within k noProteinUncertain h = tt
-  protein-body-within k noProtein h = tt
-  protein-body-within k noChangeUncertain h = tt
-  protein-body-within k noChange h = tt
-  protein-body-within k unknown h = tt
-  protein-body-within k (change (both l e)) h =
-      within-both (muNumbers (endsNumbers Prot) k l) (muNumbers proteinEditNumbers (k + length (printLocation Prot l)) e)
-      (mu-within (printEnds Prot) (endsNumbers Prot) (ends-within Prot) k l (left (printLocation Prot l) _ h))
-      (mu-within printProteinEdit proteinEditNumbers protein-edit-within (k + length (printLocation Prot l)) e (right (printLocation Prot l) h))
-  protein-body-within k (bracketed (both i e)) h =
-      within-both (endsNumbers Prot (k + 1) i) (proteinEditNumbers (k + 1 + length (printEnds Prot i)) e)
-      (ends-within Prot (k + 1) i (left (printEnds Prot i) _ (inner h)))
-      (protein-edit-within (k + 1 + length (printEnds Prot i)) e (right (printEnds Prot i) (inner h)))
+  protein-body-placed : (k : ℕ) (b : ProteinBody) → WfProteinBody b → Stands s k (printProteinBody b) → Placed (proteinBodyNumbers k b)
+  protein-body-placed k met1 w h = tt
+  protein-body-placed k bracketedMet1 w h = tt
+  protein-body-placed k noProteinUncertain w h = tt
+  protein-body-placed k noProtein w h = tt
+  protein-body-placed k noChangeUncertain w h = tt
+  protein-body-placed k noChange w h = tt
+  protein-body-placed k unknown w h = tt
+  protein-body-placed k (change (both l e)) w h =
+      placed-both (muNumbers (endsNumbers Prot) k l) (muNumbers proteinEditNumbers (k + length (printLocation Prot l)) e)
+      (mu-placed (printEnds Prot) (WfEnds Prot) (endsNumbers Prot) (ends-placed Prot) k l (w .0 .0) (left (printLocation Prot l) _ h))
+      (mu-placed printProteinEdit WfProteinEdit proteinEditNumbers protein-edit-placed (k + length (printLocation Prot l)) e (w .0 .1) (right (printLocation Prot l) h))
+  protein-body-placed k (bracketed (both i e)) w h =
+      placed-both (endsNumbers Prot (k + 1) i) (proteinEditNumbers (k + 1 + length (printEnds Prot i)) e)
+      (ends-placed Prot (k + 1) i (w .0 .0) (left (printEnds Prot i) _ (inner h)))
+      (protein-edit-placed (k + 1 + length (printEnds Prot i)) e (w .0 .1) (right (printEnds Prot i) (inner h)))
 
-  body-within : (kind : Kind) (k : ℕ) (b : Body kind) → Stands s k (printBody kind b) → Within (bodyNumbers kind k b)
-  body-within Cds = na-body-within Cds
-  body-within Genome = na-body-within Genome
-  body-within Mt = na-body-within Mt
-  body-within Tx = na-body-within Tx
-  body-within Prot = protein-body-within
-  body-within Rna = na-body-within Rna
+  module _ (letters : Kind → ℕ → Bool) where
+    body-placed : (kind : Kind) (k : ℕ) (b : Body kind) → WfBody letters kind b → Stands s k (printBody kind b) → Placed (bodyNumbers kind k b)
+    body-placed Cds = na-body-placed (letters Cds) Cds
+    body-placed Genome = na-body-placed (letters Genome) Genome
+    body-placed Mt = na-body-placed (letters Mt) Mt
+    body-placed Tx = na-body-placed (letters Tx) Tx
+    body-placed Prot = protein-body-placed
+    body-placed Rna = na-body-placed (letters Rna) Rna
 
-  numbers-within : (k : ℕ) (t : Text) → Stands s k (print t) → Within (numbersAt k t)
-  numbers-within k (text head kind b) h = body-within kind (k + length (printHeader head) + length (printKind kind)) b (right (printKind kind) (right (printHeader head) h))
+    numbers-placed : (k : ℕ) (t : Text) → Wf letters t → Stands s k (print t) → Placed (numbersAt k t)
+    numbers-placed k (text head kind b) w h =
+        body-placed kind (k + length (printHeader head) + length (printKind kind)) b (w .1) (right (printKind kind) (right (printHeader head) h))
 
 -- a text that is the tree's alone
-pub place-in-text : (t : Text) (place : ℕ) → misfit (numbersAt 0 t) ≡ some place → place ≤ length (print t)
-place-in-text t place e = misfit-within (print t) (numbersAt 0 t) place (numbers-within (print t) 0 t (stands-whole (print t))) e
+module _ (letters : Kind → ℕ → Bool) (t : Text) (w : Wf letters t) (place : ℕ) (e : misfit (numbersAt 0 t) ≡ some place) where
+  pub unfit-at : Unfit (print t) place
+  unfit-at = placed-misfit (print t) (numbersAt 0 t) place (numbers-placed (print t) letters 0 t w (stands-whole (print t))) e
+
+  pub place-in-text : place ≤ length (print t)
+  place-in-text = omega (arith, stands-end (unfit-at .stands))

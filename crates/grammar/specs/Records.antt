@@ -157,7 +157,7 @@ abbrev pub muNaEditAt : ℕ → Mu NaEdit → MuNaEdit
 muNaEditAt k (certain e) = MuNa.Certain (naEditAt k e)
 muNaEditAt k (uncertain e) = MuNa.Uncertain (naEditAt (k + 1) e)
 
--- ---- protein edits: k is where the word `fs` or `ext` starts, or what is behind it
+-- ---- protein edits: of `fs` and `ext`, k is where the word starts
 abbrev pub fsAt : Part → ℕ → Option Stop → DP.ProteinEdit
 fsAt r k none = Pr.Fs r Absent None
 fsAt r k (some (stop t n)) = Pr.Fs r (Present (spanOf (k + 2) (printTerminal t))) (lengthOf n)

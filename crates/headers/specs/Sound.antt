@@ -138,7 +138,7 @@ sound-header s t h = go (parseAccession s) refl h
 abbrev pub headerLang : Lang
 headerLang = record { Tree = Header; print = printHeader; Wf = WfHeader; Stop = StopHeader; parse = parseHeader; complete = complete-header; sound = sound-header }
 
--- ---- the end may follow, and `:`; behind an accession also `(`
+-- ---- the end may follow a header, and `:`
 pub header-end : StopHeader []
 unfolding run starts
 header-end = record { accession-ends = record { no-more = refl; no-suffix = refl; no-version = refl }; no-gene = refl }

@@ -117,7 +117,7 @@ module _ (l : List ℕ) where
   pub refused-small : (n place : ℕ) → Reads allLetters l (refused n place) → (n < 2 ^ 32) × (place < 2 ^ 32)
   refused-small n place (Reads.tooLong h) = (omega arith, omega arith)
   refused-small n place (notInGrammar h g) = (omega arith, omega arith)
-  refused-small n place (doesNotFit h x w p e) = (omega arith, omega (arith, place-in-text x p e, ap length (w .text)))
+  refused-small n place (doesNotFit h x w p e) = (omega arith, omega (arith, place-in-text allLetters x (w .wf) p e, ap length (w .text)))
 
   answers-short : {a : List ℕ} → Answers l a → length a ≤ limit
   answers-short (text v r t s) = omega (arith, best-length (s .best l (reads-content l v r)), accepted-short v r)

@@ -28,7 +28,6 @@ use Rattle.grammar.specs.Records.{recordAt}
 use Rattle.grammar.specs.Reads.{best-unique}
 use Rattle.promise.specs.Outcome.{Outcome, Outcome.given, Outcome.refused, readOutcome, writeOutcome, widthOutcome}
 use Rattle.promise.specs.Reading.{TreeOf, Reads, Reads.tooLong, Reads.notInGrammar, Reads.doesNotFit, Reads.accepted}
-use Rattle.promise.specs.Writing as Write
 use Rattle.promise.specs.Writing.{Sound, Unsound, Unsound.tooLong, Unsound.badSpan, Unsound.noText, Writes, ToWrite, Fits}
 use Rattle.promise.specs.NoRef.{NaNoRef, NoRefText}
 use Rattle.promise.specs.Width.{Measures, Measures.unsound, Measures.noWidth, Measures.measured}

@@ -12,10 +12,12 @@ use lib.Seq.{length-take-le, take-at, take-add}
 use borrow.Author.Tests.{eqb-true, ne-eqb, leb-true, le-leb, not-true}
 use Rattle.texts.specs.Ascii.{ascii}
 use Rattle.texts.specs.Tests.{and-true, true-and, or-true, left-or, right-or, never, clash}
-use Rattle.texts.specs.Runs.{every, Some, run, run-le, run-nil, run-head, run-is, front, front-every}
+use Rattle.texts.specs.Runs.{every, every-append, every-wider, one-every, Some, run, run-le, run-nil, run-head, run-is, front, front-every}
 use Rattle.texts.specs.Words.{same, same-true}
 use Rattle.alphabet.specs.Letters.{among, digit, residue}
-use Rattle.alphabet.specs.Apart.{none-among}
+use Rattle.alphabet.specs.Classes.{member}
+use Rattle.alphabet.specs.Apart.{none-among, isAscii, member-ascii}
+use Rattle.alphabet.specs.declared.Class.the-variants.{Residue}
 use Rattle.residue.specs.Rows.{rows}
 use Rattle.residue.specs.Residues.{oneOf, isThree, isOne, isResidue, threes, isResidues}
 use Rattle.residue.specs.Reading.{residueLen, threesLen, residuesLen, continues}
@@ -282,3 +284,31 @@ residues-sound s h = parts-residues (take (residuesLen s) s) (rw (length-take-le
     go : (t : Bool) → threes (take (cond t (run residue s) (threesLen s)) s) || every residue (take (cond t (run residue s) (threesLen s)) s) ≡ true
     go true = right-or (threes (take (run residue s) s)) (front-every residue s)
     go false = left-or (every residue (take (threesLen s) s)) (threes-sound s)
+
+-- ---- no byte of 128 or above
+one-ascii : (r : List ℕ) → isOne r ≡ true → every isAscii r ≡ true
+unfolding isOne member
+one-ascii [] h = absurd (clash h refl)
+one-ascii (b ∷ []) h = one-every isAscii b (member-ascii b Residue h)
+one-ascii (b ∷ c ∷ r) h = absurd (clash h refl)
+
+three-ascii : (r : List ℕ) → isThree r ≡ true → every isAscii r ≡ true
+unfolding isThree rows every isAscii
+three-ascii r = one-of-each (every isAscii) rows r refl
+
+threes-ascii : (r : List ℕ) → threes r ≡ true → every isAscii r ≡ true
+unfolding threes every
+threes-ascii [] h = refl
+threes-ascii (a ∷ []) h = absurd (clash h refl)
+threes-ascii (a ∷ b ∷ []) h = absurd (clash h refl)
+threes-ascii (a ∷ b ∷ c ∷ r) h =
+    let e = and-true (isThree (a ∷ b ∷ c ∷ [])) (threes r) h in
+    every-append isAscii (a ∷ b ∷ c ∷ []) r (three-ascii (a ∷ b ∷ c ∷ []) (e .0)) (threes-ascii r (e .1))
+
+pub residue-ascii : (r : List ℕ) → isResidue r ≡ true → every isAscii r ≡ true
+unfolding isResidue
+residue-ascii r h = ⊎-elim (three-ascii r) (one-ascii r) (or-true (isThree r) (isOne r) h)
+
+pub residues-ascii : (r : List ℕ) → isResidues r ≡ true → every isAscii r ≡ true
+unfolding member
+residues-ascii r h = ⊎-elim (threes-ascii r) (every-wider residue isAscii (λ b. member-ascii b Residue) r) (residues-parts r h .1)

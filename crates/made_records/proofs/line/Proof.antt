@@ -4,39 +4,30 @@ use borrow.Author.Needs.{needs}
 use Rattle.made_records.proofs.line.Statement.{statement}
 use Rattle.made_records.proofs.line.Tie as tie
 
--- src/main.rt:93:19
 large-buffer-requires : tie.Need-large-buffer-requires
 large-buffer-requires c κs = search needs
 
--- src/main.rt:94:43
 slice-aggregate-columns : tie.Need-slice-aggregate-columns
 slice-aggregate-columns c = search needs
 
--- src/main.rt:94:9
 columns-requires : tie.Need-columns-requires
 columns-requires c κs = search needs
 
--- src/main.rt:95:26
 slice-aggregate-byte : tie.Need-slice-aggregate-byte
 slice-aggregate-byte c = search needs
 
--- src/main.rt:95:9
 byte-requires : tie.Need-byte-requires
 byte-requires c κs = search needs
 
--- src/main.rt:96:34
 array-share-prefix-out : tie.Need-array-share-prefix-out
 array-share-prefix-out c = search needs
 
--- src/main.rt:96:34
 slice-aggregate-write-all : tie.Need-slice-aggregate-write-all
 slice-aggregate-write-all c = sym (length-take-le (c .before .before .byte .result) _ (search needs))
 
--- src/main.rt:96:5
 write-all-requires : tie.Need-write-all-requires
 write-all-requires c κs = search needs
 
--- src/main.rt:92:1
 returns : tie.Need-returns
 returns c = search needs
 
