@@ -1,95 +1,106 @@
--- Laws behind the proofs: a piece step by step, one piece behind another, and what the last line gives.
-use Prim.Native.Nat.{ℕ, _+_, _≤_, _<_}
-use mathlib.Core.Path.{_≡_, refl, sym, ap, _∙_}
+-- Laws behind the proofs: what a call answered, which the machine tests, and that the program stays within its room.
+use Prim.Native.Nat.{ℕ, zero, suc, _≤_}
+use mathlib.Core.Path.{_≡_, refl, ap, _∙_}
 use mathlib.Core.Bool.{Bool, true, false, cond}
-use mathlib.Core.List.{List, [], _∷_, _++_, foldl-append}
+use mathlib.Core.List.{List, [], _∷_, _++_}
 use native.Mathlib.Omega.{arith}
-use lib.ListN.{length, take, drop, length-drop, drop-of-length-le}
-use lib.Seq.{drop-drop}
+use lib.IntN.{ℤ, pos, negsuc}
+use lib.Signed.{ltZ}
+use lib.ListN.{length, take, length-take}
+use borrow.Author.Tests.{ltb-true}
+use mir.Syntax.{w64}
+use mir.Val.{ofZ}
+use Rattle.io.specs.Counts.{clamped}
+use Rattle.texts.specs.Tests.{clash}
+use Rattle.lent.specs.Put.{put, put-length}
 use Rattle.lines.specs.declared.Line.{Line}
-use Rattle.lines.specs.declared.Progress.{Progress}
 use Rattle.lines.specs.Lines.{lineEnd}
 use Rattle.lines.specs.Taking.{noLine, begun, heldIn}
-use Rattle.lines.specs.Feeding.{writes, finished, clear}
-use Rattle.lines.specs.Steps.{Stepped, stateAfter, state-none, state-rest}
+use Rattle.lines.specs.Feeding.{finished}
 use Rattle.line_promise.specs.Answer.{lineAnswer}
 use Rattle.line_promise.specs.Output.{mostBytes, ended-short}
-use Rattle.line_program.specs.declared.Reached.{Reached}
-use Rattle.line_program.specs.declared.Reached.the-variants.{More, End, Fault}
-use Rattle.line_program.specs.States.{Stands, behindAll, ReadOnce, ReadAll}
+use Rattle.line_program.specs.declared.Waiting.{Waiting}
+use Rattle.line_program.specs.declared.Next.{Next}
+use Rattle.line_program.specs.declared.Next.the-variants.{Read, Write, WriteLast, Stop}
+use Rattle.line_program.specs.After.{Ready, WentOn, WentOn.usedUp, WentOn.stepped, pieceOf, AfterRead, AfterRead.failed, AfterRead.ended, AfterRead.came, AfterWrite, AfterWrite.failed, AfterWrite.allWritten, lastAnswer, Acted}
+use Rattle.line_program.specs.Runs.{Run, Run.begins, Run.reading, Run.writing, Run.writingLast, Ran}
 
--- ---- on the way through a piece
-module _ (piece buffer₀ : List ℕ) (line₀ : Line) (out₀ : List ℕ) where
-  pub record Along (used : ℕ) (line : Line) (buffer out : List ℕ) : Type 0 where
-    pub used-in : used ≤ length piece
-    pub len-in : line .len ≤ length buffer
-    pub same-buffer : length buffer ≡ length buffer₀
-    pub same-out : length out ≡ length out₀
-    pub still : stateAfter lineAnswer buffer₀ line₀ piece ≡ stateAfter lineAnswer buffer line (drop used piece)
+-- ---- what a call answered
+module _ (input buffer : List ℕ) (line : Line) (out : List ℕ) where
+  pub read-failed : (got : ℤ) → ltZ got (pos 0) ≡ true → AfterRead input buffer line out got (Stop false) buffer out
+  read-failed (pos n) e = absurd (omega (arith, ltb-true n 0 e))
+  read-failed (negsuc n) e = AfterRead.failed
 
-  pub along-start : line₀ .len ≤ length buffer₀ → Along 0 line₀ buffer₀ out₀
-  along-start h = record { used-in = omega arith; len-in = h; same-buffer = refl; same-out = refl; still = refl }
+  pub read-ended : (got : ℤ) → ltZ got (pos 0) ≡ false → ofZ w64 got ≡ 0 → {n : ℕ} {out′ : List ℕ} → (n ≡ length (lastAnswer buffer line)) × (out′ ≡ put out 0 (lastAnswer buffer line))
+      → AfterRead input buffer line out got (WriteLast n) buffer out′
+  read-ended (negsuc n) e z f = absurd (clash refl e)
+  read-ended (pos zero) e z f = rw (f .0, f .1) ended
+  read-ended (pos (suc n)) e z f = absurd (omega arith)
 
-  module _ (used : ℕ) (line : Line) (buffer out : List ℕ) (a : Along used line buffer out) where
-    module _ {part : List ℕ} (is-rest : part ≡ drop used piece) {r : Progress} {after out′ : List ℕ} (s : Stepped lineAnswer mostBytes part buffer line out r after out′) where
-      pub used-more : used < length piece → mostBytes ≤ length out₀ → (1 ≤ r .used) × (used + r .used ≤ length piece)
-      used-more h k =
-          let l : length part ≡ length (drop used piece) = ap length is-rest in
-          (s .used-some (omega (arith, length-drop used piece)) (omega (arith, a .same-out)), omega (arith, length-drop used piece, s .used-in))
+  pub read-some : (got : ℤ) → ltZ got (pos 0) ≡ false → (ofZ w64 got ≡ 0 → ⊥) → {n : ℕ} → n ≡ clamped got (length input) → {r : Next} {buffer′ out′ : List ℕ}
+      → WentOn (take n input) 0 buffer line out r buffer′ out′ → AfterRead input buffer line out got r buffer′ out′
+  unfolding pieceOf
+  read-some (negsuc k) e z c w = absurd (clash refl e)
+  read-some (pos zero) e z c w = absurd (z refl)
+  read-some (pos (suc k)) e z c w = came (rw c at w)
 
-      pub along-more : used + r .used ≤ length piece → Along (used + r .used) (r .line) after out′
-      along-more h = record {
-        used-in = h;
-        len-in = s .len-in;
-        same-buffer = s .same-buffer ∙ a .same-buffer;
-        same-out = s .same-out ∙ a .same-out;
-        still = a .still ∙ ap (stateAfter lineAnswer buffer line) (sym is-rest) ∙ state-rest lineAnswer mostBytes part buffer line out r after out′ s ∙ rw (is-rest, drop-drop (r .used) used piece);
-      }
-
-    pub stands-all : length piece ≤ used → Stands (stateAfter lineAnswer buffer₀ line₀ piece) buffer (More line)
-    unfolding Stands
-    stands-all h = (sym (a .still ∙ ap (stateAfter lineAnswer buffer line) (drop-of-length-le piece h) ∙ state-none lineAnswer buffer line), a .len-in)
-
--- ---- one read
-module _ (buffer : List ℕ) (line : Line) (input : List ℕ) where
-  pub once-ended : line .len ≤ length buffer → ReadOnce buffer line input buffer (End line)
-  unfolding Stands
-  once-ended h = record { got = 0; within = omega arith; stands = (sym (state-none lineAnswer buffer line), h) }
-
-  pub once-failed : (after : List ℕ) → ReadOnce buffer line input after Fault
-  unfolding Stands
-  once-failed after = record { got = 0; within = omega arith; stands = tt }
-
--- ---- one read behind another
-module _ (buffer₀ : List ℕ) where
-  pub none-read : {line : Line} → line ≡ noLine → ReadAll buffer₀ buffer₀ (More line)
-  unfolding Stands behindAll
-  none-read e = record { pieces = []; stands = rw e (refl, omega arith) }
-
-  module _ {buffer : List ℕ} {line : Line} where
-    pub more-within : ReadAll buffer₀ buffer (More line) → line .len ≤ length buffer
-    unfolding Stands
-    more-within a = a .stands .1
-
-    pub end-within : ReadAll buffer₀ buffer (End line) → line .len ≤ length buffer
-    unfolding Stands
-    end-within a = a .stands .1
-
-    pub next-read : ReadAll buffer₀ buffer (More line) → {input after : List ℕ} {r : Reached} → ReadOnce buffer line input after r → ReadAll buffer₀ after r
-    unfolding Stands behindAll
-    next-read a {input} {after} {r} o =
-        let piece : List ℕ = take (o .got) input in
-        let q : behindAll buffer₀ (a .pieces ++ (piece ∷ [])) ≡ stateAfter lineAnswer buffer line piece =
-        foldl-append (λ (s : List ℕ × Line) (p : List ℕ). stateAfter lineAnswer (s .0) (s .1) p) (buffer₀, noLine) (a .pieces) (piece ∷ [])
-        ∙ ap (λ (s : List ℕ × Line). stateAfter lineAnswer (s .0) (s .1) piece) (sym (a .stands .0))
-        in
-        record { pieces = a .pieces ++ (piece ∷ []); stands = rw q (o .stands) }
-
--- ---- at the end of the input
-pub last-short : (buffer : List ℕ) (line : Line) → length (finished (writes lineAnswer) (clear buffer line)) ≤ mostBytes
+-- ---- within its room
+last-short : (buffer : List ℕ) (line : Line) → length (lastAnswer buffer line) ≤ mostBytes
 unfolding finished
 last-short buffer line = go (begun line)
   where
     go : (t : Bool) → length (cond t (lineAnswer (heldIn buffer line) ++ (lineEnd ∷ [])) []) ≤ mostBytes
     go true = ended-short (heldIn buffer line)
     go false = omega arith
+
+went-ready : (input : List ℕ) {piece : List ℕ} {used : ℕ} {buffer : List ℕ} {line : Line} {out : List ℕ} {r : Next} {buffer′ out′ : List ℕ} → WentOn piece used buffer line out r buffer′ out′
+    → length piece ≤ length input → line .len ≤ length buffer → mostBytes ≤ length out → Ready r input buffer′ out′
+unfolding Ready
+went-ready input (usedUp k) p l h = (l, h)
+went-ready input (stepped k s t) p l h = (t .at-in, p, t .len-in, omega (arith, t .same-out))
+
+read-ready : {input buffer : List ℕ} {line : Line} {out : List ℕ} {got : ℤ} {r : Next} {buffer′ out′ : List ℕ} → AfterRead input buffer line out got r buffer′ out′
+    → line .len ≤ length buffer → mostBytes ≤ length out → Ready r input buffer′ out′
+unfolding Ready pieceOf
+read-ready AfterRead.failed l h = tt
+read-ready {buffer = buffer} {line = line} {out = out} ended l h = rw (put-length out 0 (lastAnswer buffer line) (omega (arith, last-short buffer line))) (omega (arith, last-short buffer line))
+read-ready {input = input} (came w) l h = went-ready input w (rw length-take (omega arith)) l h
+
+write-ready : {input buffer : List ℕ} {w : Waiting} {out : List ℕ} {done : Bool} {r : Next} {buffer′ out′ : List ℕ} → AfterWrite input buffer w out done r buffer′ out′
+    → Ready (Write w) input buffer out → Ready r input buffer′ out′
+unfolding Ready
+write-ready AfterWrite.failed h = tt
+write-ready {input = input} (allWritten x) h = went-ready input x (rw length-take (omega arith)) (h .2) (h .3)
+
+-- ---- a run so far
+pub record Standing (buffer₀ : List ℕ) (next : Next) (input buffer out : List ℕ) : Type 0 where
+  pub pieces : List (List ℕ)
+  pub taken : List ℕ
+  pub run : Run buffer₀ next input buffer out pieces taken
+  pub ready : Ready next input buffer out
+
+pub standing-start : (input buffer out : List ℕ) {line : Line} → line ≡ noLine → mostBytes ≤ length out → Standing buffer (Read line) input buffer out
+unfolding Ready
+standing-start input buffer out e h = record { pieces = []; taken = []; run = rw e (begins h); ready = rw e (omega arith, h) }
+
+module _ {buffer₀ input buffer out : List ℕ} {r : Next} {input′ buffer′ out′ : List ℕ} where
+  pub standing-more : (next : Next) → Standing buffer₀ next input buffer out → Acted next input buffer out r input′ buffer′ out′ → Standing buffer₀ r input′ buffer′ out′
+  unfolding Acted Ready
+  standing-more (Read line) s a =
+      record { pieces = s .pieces ++ (pieceOf (a .0) input′ ∷ []); taken = s .taken; run = reading (s .run) (a .0) (a .1); ready = read-ready (a .1) (s .ready .0) (s .ready .1) }
+  standing-more (Write w) s (true, a, e) =
+      rw e (record { pieces = s .pieces; taken = s .taken ++ take (w .at) out; run = writing (s .run) true (w .at) refl a; ready = write-ready a (s .ready) })
+  standing-more (Write w) s (false, a, e) =
+      rw e (record { pieces = s .pieces; taken = s .taken ++ take 0 out; run = writing (s .run) false 0 (omega arith) a; ready = write-ready a (s .ready) })
+  standing-more (WriteLast at) s (true, q, e, f, g) =
+      rw (q, e, f, g) (record { pieces = s .pieces; taken = s .taken ++ take at out; run = writingLast (s .run) true at refl; ready = tt })
+  standing-more (WriteLast at) s (false, q, e, f, g) =
+      rw (q, e, f, g) (record { pieces = s .pieces; taken = s .taken ++ take 0 out; run = writingLast (s .run) false 0 (omega arith); ready = tt })
+  standing-more (Stop well) s (q, e, f, g) = rw (q, e, f, g) s
+
+module _ {buffer₀ input buffer out : List ℕ} {next : Next} (s : Standing buffer₀ next input buffer out) where
+  pub ran-to-stop : {well : Bool} → next ≡ Stop well → Ran buffer₀ well input buffer out
+  ran-to-stop e = record { next = next; pieces = s .pieces; taken = s .taken; run = s .run; stopped = λ w. e ∙ ap Stop w }
+
+  pub ran-on : Ran buffer₀ false input buffer out
+  ran-on = record { next = next; pieces = s .pieces; taken = s .taken; run = s .run; stopped = λ w. absurd (clash w refl) }

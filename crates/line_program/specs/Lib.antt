@@ -1,1 +1,4 @@
-pub mod States
+pub mod After
+pub mod Unique
+pub mod Runs
+pub mod Fronts

@@ -1,85 +1,112 @@
 // The line program: standard input to standard output, in large pieces.
-// No contract can speak of what is read or written: these say how the program stands behind each piece.
+// No contract can speak of what is read or written. So what comes next is decided, by what the last read or write has answered, in
+// functions whose contracts say all of it, and `act` makes the calls.
 use libc::STDERR_FILENO;
 use libc::STDIN_FILENO;
 use libc::STDOUT_FILENO;
 use lines::Line;
 ghost use Prim.Native.Nat.{_≤_};
 ghost use lib.ListN.{length};
-ghost use Rattle.lines.specs.Steps.{stateAfter};
-ghost use Rattle.line_promise.specs.Answer.{lineAnswer};
-ghost use Rattle.line_program.specs.States.{Stands, ReadOnce, ReadAll};
+ghost use Rattle.line_program.specs.After.{Ready, WentOn, AfterRead, AfterWrite, Acted};
+ghost use Rattle.line_program.specs.Runs.{Ran};
 
-// How far it has come, with the line so far: more may follow, or the input has ended. A fault is a read or a write that failed.
-enum Reached {
-    More(Line),
-    End(Line),
-    Fault,
+// Answers that wait to be written: where they end in the room. Behind them, so many bytes of the piece that was read are used.
+struct Waiting {
+    at: usize,
+    piece: usize,
+    used: usize,
+    line: Line,
 }
 
-// All of a piece, a step at a time: what a step has made is written before the next.
-fn over(piece: &[u8], buffer: &mut [u8], line: Line, out: &mut [u8]) -> Reached
+// The line so far goes along. A last line's answer is so many bytes; the program stops well where no read and no write has failed.
+enum Next {
+    Read(Line),
+    Write(Waiting),
+    WriteLast(usize),
+    Stop(bool),
+}
+
+// In a piece that was read, of which so many bytes are used.
+fn go_on(piece: &[u8], used: usize, buffer: &mut [u8], line: Line, out: &mut [u8]) -> Next
     requires { ⌜ (line .len ≤ length (now buffer)) × (4097 ≤ length (now out)) ⌝ }
-    ensures { λ r. ⌜ Stands (stateAfter lineAnswer (now (buffer .entry)) line (now (piece .entry))) (now (buffer .exit)) r ⌝ }
+    ensures { λ r. ⌜ WentOn (now (piece .entry)) used (now (buffer .entry)) line (now (out .entry)) r (now (buffer .exit)) (now (out .exit)) ⌝ }
 {
-    let mut used: usize = 0;
-    let mut state = line;
-    while used < piece.len() {
-        let s = line_steps::step(&piece[used..], buffer, state, out);
-        let at = s.at;
-        if !io::write_all(STDOUT_FILENO, &out[..at]) {
-            return Reached::Fault;
-        }
-        used += s.used;
-        let next = s.line;
-        state = next;
+    if piece.len() <= used {
+        return Next::Read(line);
     }
-    Reached::More(state)
+    let s = line_steps::step(&piece[used..], buffer, line, out);
+    let behind = used + s.used;
+    let next = s.line;
+    Next::Write(Waiting {
+        at: s.at,
+        piece: piece.len(),
+        used: behind,
+        line: next,
+    })
 }
 
-// Reads once, and answers what came.
-fn once(input: &mut [u8], buffer: &mut [u8], line: Line, out: &mut [u8]) -> Reached
+// A read that fails ends no line.
+fn after_read(got: isize, input: &[u8], buffer: &mut [u8], line: Line, out: &mut [u8]) -> Next
     requires { ⌜ (line .len ≤ length (now buffer)) × (4097 ≤ length (now out)) ⌝ }
-    ensures { λ r. ⌜ ReadOnce (now (buffer .entry)) line (now (input .exit)) (now (buffer .exit)) r ⌝ }
+    ensures { λ r. ⌜ AfterRead (now (input .entry)) (now (buffer .entry)) line (now (out .entry)) got r (now (buffer .exit)) (now (out .exit)) ⌝ }
 {
-    let got = libc::read(STDIN_FILENO, input);
     if got < 0 {
-        return Reached::Fault;
+        return Next::Stop(false);
     }
     if got == 0 {
-        return Reached::End(line);
+        return Next::WriteLast(line_steps::finish(buffer, line, out));
     }
     let n = io::count(got, input);
-    over(&input[..n], buffer, line, out)
+    go_on(&input[..n], 0, buffer, line, out)
 }
 
-// Reads to the end, in no more turns than any run has.
-fn every(input: &mut [u8], buffer: &mut [u8], out: &mut [u8]) -> Reached
-    requires { ⌜ 4097 ≤ length (now out) ⌝ }
-    ensures { λ r. ⌜ ReadAll (now (buffer .entry)) (now (buffer .exit)) r ⌝ }
+fn after_write(done: bool, input: &[u8], buffer: &mut [u8], w: Waiting, out: &mut [u8]) -> Next
+    requires { ⌜ (w .piece ≤ length (now input)) × (w .line .len ≤ length (now buffer)) × (4097 ≤ length (now out)) ⌝ }
+    ensures { λ r. ⌜ AfterWrite (now (input .entry)) (now (buffer .entry)) w (now (out .entry)) done r (now (buffer .exit)) (now (out .exit)) ⌝ }
 {
-    let mut line = lines::no_line();
-    let mut turns = u64::MAX;
-    while turns > 0 {
-        let reached = once(input, buffer, line, out);
-        let Reached::More(next) = reached else {
-            return reached;
-        };
-        line = next;
-        turns -= 1;
+    if done {
+        let n = w.piece;
+        let line = w.line;
+        return go_on(&input[..n], w.used, buffer, line, out);
     }
-    Reached::More(line)
+    Next::Stop(false)
 }
 
-// Answers every line, the last one too where it has a byte and no LF; says whether no read and no write has failed.
+// One read or one write, and what comes next.
+fn act(next: Next, input: &mut [u8], buffer: &mut [u8], out: &mut [u8]) -> Next
+    requires { ⌜ Ready next (now input) (now buffer) (now out) ⌝ }
+    ensures { λ r. ⌜ Acted next (now (input .entry)) (now (buffer .entry)) (now (out .entry)) r (now (input .exit)) (now (buffer .exit)) (now (out .exit)) ⌝ }
+{
+    match next {
+        Next::Read(line) => {
+            let got = libc::read(STDIN_FILENO, input);
+            after_read(got, input, buffer, line, out)
+        }
+        Next::Write(w) => {
+            let at = w.at;
+            let done = io::write_all(STDOUT_FILENO, &out[..at]);
+            after_write(done, input, buffer, w, out)
+        }
+        Next::WriteLast(at) => Next::Stop(io::write_all(STDOUT_FILENO, &out[..at])),
+        Next::Stop(well) => Next::Stop(well),
+    }
+}
+
+// In no more turns than any run has; says whether the program has stopped well.
 fn all(input: &mut [u8], buffer: &mut [u8], out: &mut [u8]) -> bool
     requires { ⌜ 4097 ≤ length (now out) ⌝ }
+    ensures { λ r. ⌜ Ran (now (buffer .entry)) r (now (input .exit)) (now (buffer .exit)) (now (out .exit)) ⌝ }
 {
-    let Reached::End(line) = every(input, buffer, out) else {
-        return false;
-    };
-    let at = line_steps::finish(buffer, line, out);
-    io::write_all(STDOUT_FILENO, &out[..at])
+    let mut next = Next::Read(lines::no_line());
+    let mut turns = u64::MAX;
+    while turns > 0 {
+        if let Next::Stop(well) = next {
+            return well;
+        }
+        next = act(next, input, buffer, out);
+        turns -= 1;
+    }
+    false
 }
 
 // A program has no exit status to give, so that a fault is told on standard error.

@@ -1,83 +1,85 @@
--- `line_program::all` is safe, and ends.
-use Prim.Native.Nat.{_≤_}
-use mathlib.Core.Path.{sym}
-use native.Mathlib.Omega.{arith}
+-- `line_program::all` meets its contract.
+use mathlib.Core.Path.{_≡_, refl}
 use lib.ListN.{length}
-use lib.Seq.{length-take-le}
-use Rattle.line_program.proofs.Laws.{end-within, last-short}
+use Rattle.line_program.proofs.Laws.{Standing, standing-start, standing-more, ran-to-stop, ran-on}
 use borrow.Author.Needs.{needs}
 use Rattle.line_program.proofs.all.Statement.{statement}
 use Rattle.line_program.proofs.all.Tie as tie
 
-every-requires : tie.Need-every-requires
-every-requires c κs = search needs
+abbrev Inv-loop : tie.InvT-loop
+Inv-loop input₀ buffer₀ out₀ next₀ turns₀ input buffer out next turns =
+    Standing buffer₀ next input buffer out × (length input ≡ length input₀) × (length buffer ≡ length buffer₀) × (length out ≡ length out₀)
 
-enum-known-line : tie.Need-enum-known-line
-enum-known-line c = search needs
+abbrev μ-loop : tie.MeasureT-loop
+μ-loop input₀ buffer₀ out₀ next₀ turns₀ input buffer out next turns = turns
 
-same-length : tie.Need-same-length
+no-line-requires : tie.Need-no-line-requires Inv-loop μ-loop
+no-line-requires c κs = search needs
+
+loop-holds : tie.Need-loop-holds Inv-loop μ-loop
+loop-holds c =
+    let s = c .before .before .before .before in
+    (standing-start (s .args .input .now) (s .args .buffer .now) (s .args .out .now) (c .no-line .ensures) (s .pre), refl, refl, refl)
+
+enum-known-next : tie.Need-enum-known-next Inv-loop μ-loop
+enum-known-next c = search needs
+
+same-length : tie.Need-same-length Inv-loop μ-loop
 same-length c = search needs
 
-same-length-2 : tie.Need-same-length-2
+same-length-2 : tie.Need-same-length-2 Inv-loop μ-loop
 same-length-2 c = search needs
 
-same-length-3 : tie.Need-same-length-3
+same-length-3 : tie.Need-same-length-3 Inv-loop μ-loop
 same-length-3 c = search needs
 
-returns : tie.Need-returns
-returns c = search needs
+returns : tie.Need-returns Inv-loop μ-loop
+returns c = ran-to-stop (c .before .before .before .before .loop .inv .0) (c .before .next .given .1)
 
-finish-requires : tie.Need-finish-requires
-finish-requires c κs =
-    let m = c .before .before .before in
-    let e = m .before .before .before .before .before .before .before .before in
-    (end-within _ (rw (m .line .given .1) at (e .every .ensures)), search needs)
+act-requires : tie.Need-act-requires Inv-loop μ-loop
+act-requires c κs = c .before .before .before .before .before .loop .inv .0 .ready
 
--- how much is written at the end
-last-within : (c : tie.After-finish) → c .finish .result ≤ 4097
-last-within c =
-    let m = c .before .before .before .before in
-    let e = m .before .before .before .before .before .before .before .before in
-    omega (arith, c .finish .ensures .0, last-short (e .every .last .1 .0) (m .line .given .0 .0))
+sub-turns : tie.Need-sub-turns Inv-loop μ-loop
+sub-turns c = search needs
 
-in-room : (c : tie.After-slice-known7) → let f = c .before .before in f .finish .result ≤ length (f .finish .last .1 .1 .0)
-in-room c = omega (arith, last-within (c .before .before))
+loop-less : tie.Need-loop-less Inv-loop μ-loop
+loop-less c = search needs
 
-slice-reshare-prefix-write-all : tie.Need-slice-reshare-prefix-write-all
-slice-reshare-prefix-write-all c = in-room c
+loop-again : tie.Need-loop-again Inv-loop μ-loop
+loop-again c =
+    let t = c .before .before .before .before .before .before in
+    let l = t .before .before .before .before .before .before .loop in
+    (standing-more (l .next) (l .inv .0) (t .act .ensures), search needs, search needs, search needs)
 
-slice-aggregate-write-all : tie.Need-slice-aggregate-write-all
-slice-aggregate-write-all c = let f = c .before .before .before in sym (length-take-le (f .finish .result) (f .finish .last .1 .1 .0) (in-room (c .before)))
-
-write-all-requires : tie.Need-write-all-requires
-write-all-requires c κs = search needs
-
-same-length-4 : tie.Need-same-length-4
+same-length-4 : tie.Need-same-length-4 Inv-loop μ-loop
 same-length-4 c = search needs
 
-same-length-5 : tie.Need-same-length-5
+same-length-5 : tie.Need-same-length-5 Inv-loop μ-loop
 same-length-5 c = search needs
 
-same-length-6 : tie.Need-same-length-6
+same-length-6 : tie.Need-same-length-6 Inv-loop μ-loop
 same-length-6 c = search needs
 
-returns-2 : tie.Need-returns-2
-returns-2 c = search needs
+returns-2 : tie.Need-returns-2 Inv-loop μ-loop
+returns-2 c = ran-on (c .before .loop .inv .0)
 
 pub all-spec : {M : Type 1} → statement M
 all-spec =
     tie.close
     (tie.spec
-    every-requires
-    enum-known-line
+    Inv-loop
+    μ-loop
+    no-line-requires
+    loop-holds
+    enum-known-next
     same-length
     same-length-2
     same-length-3
     returns
-    finish-requires
-    slice-reshare-prefix-write-all
-    slice-aggregate-write-all
-    write-all-requires
+    act-requires
+    sub-turns
+    loop-less
+    loop-again
     same-length-4
     same-length-5
     same-length-6
