@@ -42,14 +42,23 @@ fn insertion(bytes: usize) -> String {
     format!("{front}{}", letters(bytes - front.len()))
 }
 
+/// The text with a zero in front of its first number: not its own shortest text.
+fn with_zero(text: &str) -> String {
+    let body = text.find(':').unwrap();
+    let digit = body + text[body..].find(|c: char| c.is_ascii_digit()).unwrap();
+    format!("{}0{}", &text[..digit], &text[digit..])
+}
+
 pub fn classes() -> Vec<Class> {
     let typical: Vec<String> = TYPICAL.iter().map(|t| t.to_string()).collect();
+    let with_zeros = typical.iter().map(|t| with_zero(t)).collect();
     let refused = typical
         .iter()
         .flat_map(|t| [format!("{t} "), t.replacen(':', ";", 1), t.replace('.', ".x")])
         .collect();
     vec![
         Class { name: "typical lines", texts: typical },
+        Class { name: "with a zero more", texts: with_zeros },
         Class { name: "long sequences", texts: (2..=10).map(|k| insertion(k * 100)).collect() },
         Class { name: "4,096 bytes", texts: vec![insertion(4096)] },
         Class { name: "refused", texts: refused },

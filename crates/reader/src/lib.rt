@@ -3,11 +3,9 @@ use read_text::TextRead;
 use record::answers::ReadAnswer;
 ghost use mathlib.Core.Path.{_≡_};
 ghost use Rattle.grammar.specs.Texts.{allLetters};
-ghost use Rattle.na_edits.specs.Alphabet.{alphabets};
-ghost use Rattle.bodies.specs.Settled.{isSettled};
 ghost use Rattle.promise.specs.Outcome.{readOutcome};
 ghost use Rattle.promise.specs.Reading.{Reads};
-ghost use Rattle.reader.specs.Answer.{unsettled};
+ghost use Rattle.reader.specs.Answer.{Tells, unsettled};
 
 // The answer for a text, and whether the text is settled: accepted, and shown by its spelling to be the shortest text of its record.
 pub struct Reading {
@@ -26,7 +24,7 @@ fn refusal(answer: ReadAnswer) -> Reading
 
 // Any bytes, as `read`, and whether they are settled.
 pub fn reading_of(text: &[u8]) -> Reading
-    ensures { λ r. ⌜ Reads allLetters (now (text .entry)) (readOutcome (r .answer)) × (r .settled ≡ isSettled allLetters alphabets (now (text .entry))) ⌝ }
+    ensures { λ r. ⌜ Tells (now (text .entry)) r ⌝ }
 {
     if 4096 < text.len() {
         return refusal(ReadAnswer::TooLong);
