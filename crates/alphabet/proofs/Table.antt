@@ -1,16 +1,15 @@
 -- The rule of the class table: one test that is computed over all entries, and one law that turns it into the rule at each entry.
 use Prim.Native.Nat.{ℕ, zero, suc, _+_, _<_}
 use mathlib.Core.Path.{_≡_, refl}
-use mathlib.Core.Bool.{Bool, true, false, cond, _&&_, Bool·beq}
+use mathlib.Core.Bool.{Bool, true, false, _&&_, Bool·beq}
 use mathlib.Core.List.{List, [], _∷_}
 use native.Mathlib.Omega.{arith}
 use native.Mathlib.Nat.{add-zero, zero-add, add-suc, suc-add}
 use lib.ListN.{length, getD}
-use Rattle.texts.specs.Ascii.{ascii}
 use Rattle.texts.specs.Tests.{and-true, clash}
-use Rattle.alphabet.specs.Letters.{among, digit, letter, alphanumeric, nucleotide, residue}
+use Rattle.alphabet.specs.Letters.{digit, letter, alphanumeric, nucleotide, residue}
 use Rattle.alphabet.specs.Classes.{member}
-use Rattle.alphabet.specs.Cells.{within, lowest, highest, numbered, Cell, IsTable}
+use Rattle.alphabet.specs.Cells.{within, lowest, highest, numbered, Cell, IsTable, classTable}
 use Rattle.alphabet.specs.declared.Class.{Class}
 use Rattle.alphabet.specs.declared.Class.the-variants.{Digit, Letter, Alphanumeric, Nucleotide, Residue}
 
@@ -53,34 +52,9 @@ entry ks e b h =
           (every-class (λ (class : Class). Bool·beq (numbered class (getD ks b 0)) (member class b)) (rw zero-add at (right-at 0 ks e b h)) class);
     }
 
--- the letters that have one number, from 1 on
-abbrev cells : List (List ℕ)
-cells =
-    ascii "*" ∷
-    ascii "EFILPQXZ" ∷
-    ascii "U" ∷
-    ascii "ACGRYMKWSBDHVN" ∷
-    ascii "T" ∷
-    ascii "t" ∷
-    ascii "acgrymkwsbdhvn" ∷
-    ascii "u" ∷
-    ascii "JOefijlopqxz" ∷
-    ascii "0123456789" ∷
-    []
-
--- the number of the first of the cells from k on that has b, and 0 where none does
-abbrev numberFrom : ℕ → List (List ℕ) → ℕ → ℕ
-numberFrom k [] b = 0
-numberFrom k (xs ∷ xss) b = cond (among b xs) k (numberFrom (suc k) xss b)
-
--- the numbers of n bytes from b on
-abbrev numbers : ℕ → ℕ → List ℕ
-numbers zero b = []
-numbers (suc n) b = numberFrom 1 cells b ∷ numbers n (suc b)
-
-table-rule : (b : ℕ) → b < 256 → Cell b (getD (numbers 256 0) b 0)
+table-rule : (b : ℕ) → b < 256 → Cell b (getD classTable b 0)
 unfolding digit letter alphanumeric nucleotide residue member within lowest highest numbered
-table-rule = entry (numbers 256 0) refl
+table-rule = entry classTable refl
 
-pub table : IsTable (numbers 256 0)
+pub table : IsTable classTable
 table = record { cell = table-rule }

@@ -1,10 +1,12 @@
 -- The numbers of the class table, and its rule: a byte's number is one of a class's numbers exactly where the byte is of the class.
-use Prim.Native.Nat.{ℕ, _<_}
+use Prim.Native.Nat.{ℕ, zero, suc, _<_}
 use mathlib.Core.Path.{_≡_}
-use mathlib.Core.Bool.{Bool, _&&_}
-use mathlib.Core.List.{List}
+use mathlib.Core.Bool.{Bool, cond, _&&_}
+use mathlib.Core.List.{List, [], _∷_}
 use lib.Dec.{leb}
 use lib.ListN.{getD}
+use Rattle.texts.specs.Ascii.{ascii}
+use Rattle.alphabet.specs.Letters.{among}
 use Rattle.alphabet.specs.Classes.{member}
 use Rattle.alphabet.specs.declared.Class.{Class}
 use Rattle.alphabet.specs.declared.Class.the-variants.{Digit, Letter, Alphanumeric, Nucleotide, Residue}
@@ -37,3 +39,33 @@ pub record Cell (b k : ℕ) : Type 0 where
 -- each byte's number stands at its place
 pub record IsTable (ks : List ℕ) : Type 0 where
   pub cell : (b : ℕ) → b < 256 → Cell b (getD ks b 0)
+
+-- ---- the table that the program makes
+-- the letters that have one number, from 1 on
+abbrev cells : List (List ℕ)
+cells =
+    ascii "*" ∷
+    ascii "EFILPQXZ" ∷
+    ascii "U" ∷
+    ascii "ACGRYMKWSBDHVN" ∷
+    ascii "T" ∷
+    ascii "t" ∷
+    ascii "acgrymkwsbdhvn" ∷
+    ascii "u" ∷
+    ascii "JOefijlopqxz" ∷
+    ascii "0123456789" ∷
+    []
+
+-- the number of the first of the cells from k on that has b, and 0 where none does
+abbrev numberFrom : ℕ → List (List ℕ) → ℕ → ℕ
+numberFrom k [] b = 0
+numberFrom k (xs ∷ xss) b = cond (among b xs) k (numberFrom (suc k) xss b)
+
+-- the numbers of n bytes from b on
+abbrev numbers : ℕ → ℕ → List ℕ
+numbers zero b = []
+numbers (suc n) b = numberFrom 1 cells b ∷ numbers n (suc b)
+
+-- the numbers of all bytes
+abbrev pub classTable : List ℕ
+classTable = numbers 256 0

@@ -2,7 +2,7 @@
 ghost use mathlib.Core.Path.{_≡_};
 ghost use Rattle.texts.specs.Runs.{run};
 ghost use Rattle.alphabet.specs.Classes.{member};
-ghost use Rattle.alphabet.specs.Cells.{IsTable, within, lowest as lowestOf, highest as highestOf};
+ghost use Rattle.alphabet.specs.Cells.{IsTable, classTable, within, lowest as lowestOf, highest as highestOf};
 
 // 0 no letter, digit or `*`; 1 `*`; 2 a residue letter that is no nucleotide letter;
 // 3 U; 4 another upper-case nucleotide letter but T; 5 T; 6 t; 7 another lower-case nucleotide letter but u; 8 u;
@@ -309,7 +309,7 @@ fn within(low: u8, high: u8, cell: u8) -> bool
 
 // The table is written out where it is made: it is made once for a text, and lent.
 pub fn classes() -> [u8; 256]
-    ensures { λ r. ⌜ IsTable r ⌝ }
+    ensures { λ r. ⌜ (r ≡ classTable) × IsTable r ⌝ }
 {
     CLASS
 }

@@ -1,9 +1,10 @@
 -- The width of a location of any kind, and that it is the width of the record's location.
 use Prim.Native.Nat.{ℕ}
-use mathlib.Core.Path.{_≡_, refl, ap, _∙_}
+use mathlib.Core.Path.{_≡_, refl, sym, ap, _∙_}
 use mathlib.Core.Bool.{cond}
 use mathlib.Core.Option.{Option, none, some}
 use lib.IntN.{ℤ}
+use Rattle.texts.specs.Tests.{none-some}
 use Rattle.record.specs.declared.variant.Kind.{Kind}
 use Rattle.record.specs.declared.variant.Kind.the-variants.{Cds, Genome, Mt, Tx, Prot, Rna}
 use Rattle.record.specs.declared.positions.GenomePos.{GenomePos}
@@ -29,6 +30,13 @@ use Rattle.body_width.specs.declared.EndNumber.the-variants.{NoNumber, N
 abbrev pub widthGiven : BodyWidth → Option ℕ
 widthGiven NoWidth = none
 widthGiven (Width n) = some n
+
+-- so that what is given determines the answer
+pub one-width : (a b : BodyWidth) → widthGiven a ≡ widthGiven b → a ≡ b
+one-width NoWidth NoWidth e = refl
+one-width NoWidth (Width n) e = absurd (none-some e)
+one-width (Width m) NoWidth e = absurd (none-some (sym e))
+one-width (Width m) (Width n) e = let i : m ≡ n = cc in ap Width i
 
 abbrev pub numberGiven : EndNumber → Option ℤ
 numberGiven NoNumber = none

@@ -1,7 +1,7 @@
 -- Document 01, "Pairs at the edge": read, and written again.
 use Prim.Native.Nat.{ℕ, _≤_}
 use Prim.Native.String.{String}
-use mathlib.Core.Path.{_≡_, refl}
+use mathlib.Core.Path.{_≡_, refl, ap}
 use mathlib.Core.List.{List, [], _∷_, _++_, map}
 use mathlib.Core.Option.{Option, none, some}
 use mathlib.Core.Bool.{Bool, true, false, cond}
@@ -20,6 +20,7 @@ use Rattle.number.specs.Digits.{valFrom, decUpTo}
 use Rattle.number.specs.Reading.{saturated}
 use Rattle.record.specs.declared.variant.Kind.{Kind}
 use Rattle.record.specs.declared.variant.Kind.the-variants.{Cds, Genome, Mt, Tx, Prot, Rna}
+use Rattle.record.specs.declared.variant.HgvsVariant.{HgvsVariant}
 use Rattle.grammar.specs.Texts.{Text, print, allLetters}
 use Rattle.record.specs.declared.positions.GenomePos.the-variants.{At}
 use Rattle.record.specs.declared.edits.UncertainLengthChange.the-variants.{Known}
@@ -27,6 +28,9 @@ use Rattle.grammar.specs.Shapes.{Mu.certain, Both.both}
 use Rattle.grammar.specs.Values.{BodyV, ProtPosV.protPosV, NaEditV.refAlt, ProteinEditV.extV, HeaderV.headerV, ProteinBodyV, ProteinBodyV.ordinary, ProteinBodyV.noChangeV, ProteinBodyV.noChangeUncertainV, ProteinBodyV.noProteinV, ProteinBodyV.noProteinUncertainV, ProteinBodyV.unknownV, ProteinBodyV.initiationUncertain, Value, Value.value}
 use Rattle.grammar.specs.Meaning.{meaning}
 use Rattle.grammar.specs.Numbers.{misfit, numbersAt}
+use Rattle.grammar.specs.Records.{recordAt}
+use Rattle.grammar.specs.Contents.{content}
+use Rattle.grammar.specs.ContentLaw.{content-is}
 use Rattle.lang.specs.Whole.{whole}
 use Rattle.lang.specs.MuLang.{parseMu}
 use Rattle.lang.specs.BothLang.{parseBoth}
@@ -44,8 +48,8 @@ use Rattle.headers.specs.Canonical.{canonHeader}
 use Rattle.bodies.specs.ProteinBodies.{firstExact, parseOpened, parsePlain, parseOrdinary, parseProteinBody}
 use Rattle.bodies.specs.WholeText.{parseText}
 use Rattle.bodies.specs.Trees.{parsed-tree, no-tree}
-use Rattle.promise.specs.Outcome.{Outcome.refused, limit}
-use Rattle.promise.specs.Reading.{Reads, Reads.tooLong, Reads.notInGrammar, Reads.doesNotFit}
+use Rattle.promise.specs.Outcome.{Outcome.given, Outcome.refused, limit}
+use Rattle.promise.specs.Reading.{Reads, Reads.tooLong, Reads.notInGrammar, Reads.doesNotFit, Reads.accepted}
 use Rattle.promise.specs.Writing.{ReadsAsValue, ShortestText}
 use Rattle.canon.specs.TextCanon.{canonText, reads-canon, text-none}
 
@@ -76,12 +80,12 @@ hasLocation (value h Tx b) = true
 hasLocation (value h Prot b) = isOrdinary b
 hasLocation (value h Rna b) = true
 
--- t reads as a value with or without location whose shortest text is u
+-- t is read as a record with or without location whose shortest text is u
 pub record Rewritten (location : Bool) (t u : List ℕ) : Type 0 where
-  pub means : Value
-  pub form : hasLocation means ≡ location
-  pub reads : ReadsAsValue allLetters t means
-  pub shortest : ShortestText allLetters u means
+  pub back : HgvsVariant
+  pub reads : Reads allLetters t (given back)
+  pub form : hasLocation (content t back) ≡ location
+  pub shortest : ShortestText allLetters u (content t back)
 
 abbrev pub Holds : Row → Type 0
 Holds (row t (change u)) = Rewritten true t u
@@ -93,14 +97,14 @@ AllHold [] = Unit
 AllHold (r ∷ rs) = Holds r × AllHold rs
 
 -- ---- what becomes of a text, computed
-abbrev given : Bool → List ℕ → Result
-given true u = change u
-given false u = plain u
+abbrev written : Bool → List ℕ → Result
+written true u = change u
+written false u = plain u
 
 -- the place of a misfit, the form of the value, its canonical text
 abbrev rewritten : Option ℕ → Bool → Option Text → Result
 rewritten (some place) location o = refusal 3 place
-rewritten none location (some y) = given location (print y)
+rewritten none location (some y) = written location (print y)
 rewritten none location none = refusal 5 0
 
 abbrev onTree : Option Text → Result
@@ -110,9 +114,9 @@ onTree (some x) = rewritten (misfit (numbersAt 0 x)) (hasLocation (meaning x)) (
 abbrev answer : List ℕ → Result
 answer t = cond (leb (length t) limit) (onTree (parseText allLetters alphabets t)) (refusal 1 0)
 
-given-holds : (location : Bool) (t u : List ℕ) → Rewritten location t u → Holds (row t (given location u))
-given-holds true t u r = r
-given-holds false t u r = r
+written-holds : (location : Bool) (t u : List ℕ) → Rewritten location t u → Holds (row t (written location u))
+written-holds true t u r = r
+written-holds false t u r = r
 
 answer-holds : (t : List ℕ) → Holds (row t (answer t))
 answer-holds t = go (leb (length t) limit) refl
@@ -123,7 +127,8 @@ answer-holds t = go (leb (length t) limit) refl
         let s = parsed-tree allLetters alphabets t x e in
         let r : ReadsAsValue allLetters t (meaning x) = record { tree = x; wf = s .wf; fits = f; text = s .text; means = refl } in
         let c = reads-canon allLetters alphabets (meaning x) t r in
-        rw (c .found) (given-holds (hasLocation (meaning x)) t (print (c .tree)) (record { means = meaning x; form = refl; reads = r; shortest = c .shortest }))
+        let v : content t (recordAt 0 x) ≡ meaning x = rw (s .text) at (content-is x) in
+        rw (c .found) (written-holds (hasLocation (meaning x)) t (print (c .tree)) (record { back = recordAt 0 x; reads = accepted l x s f; form = ap hasLocation v; shortest = rw v (c .shortest) }))
 
     tree : length t ≤ limit → (o : Option Text) → parseText allLetters alphabets t ≡ o → Holds (row t (onTree o))
     tree l none e = notInGrammar l (no-tree allLetters alphabets t e)
