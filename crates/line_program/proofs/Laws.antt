@@ -1,48 +1,24 @@
--- Laws behind the proofs: what a call answered, which the machine tests, and that the program stays within its room.
-use Prim.Native.Nat.{ℕ, zero, suc, _≤_}
+-- Laws behind the proofs: that the program stays within its room, and a run so far.
+use Prim.Native.Nat.{ℕ, _≤_}
 use mathlib.Core.Path.{_≡_, refl, ap, _∙_}
 use mathlib.Core.Bool.{Bool, true, false, cond}
 use mathlib.Core.List.{List, [], _∷_, _++_}
 use native.Mathlib.Omega.{arith}
-use lib.IntN.{ℤ, pos, negsuc}
-use lib.Signed.{ltZ}
+use lib.IntN.{ℤ}
 use lib.ListN.{length, take, length-take}
-use borrow.Author.Tests.{ltb-true}
-use mir.Syntax.{w64}
-use mir.Val.{ofZ}
-use Rattle.io.specs.Counts.{clamped}
 use Rattle.texts.specs.Tests.{clash}
-use Rattle.lent.specs.Put.{put, put-length}
+use Rattle.lent.specs.Put.{put-length}
 use Rattle.lines.specs.declared.Line.{Line}
 use Rattle.lines.specs.Lines.{lineEnd}
 use Rattle.lines.specs.Taking.{noLine, begun, heldIn}
 use Rattle.lines.specs.Feeding.{finished}
 use Rattle.line_promise.specs.Answer.{lineAnswer}
 use Rattle.line_promise.specs.Output.{mostBytes, ended-short}
-use Rattle.line_program.specs.declared.Waiting.{Waiting}
-use Rattle.line_program.specs.declared.Next.{Next}
-use Rattle.line_program.specs.declared.Next.the-variants.{Read, Write, WriteLast, Stop}
-use Rattle.line_program.specs.After.{Ready, WentOn, WentOn.usedUp, WentOn.stepped, pieceOf, AfterRead, AfterRead.failed, AfterRead.ended, AfterRead.came, AfterWrite, AfterWrite.failed, AfterWrite.allWritten, lastAnswer, Acted}
-use Rattle.line_program.specs.Runs.{Run, Run.begins, Run.reading, Run.writing, Run.writingLast, Ran}
-
--- ---- what a call answered
-module _ (input buffer : List ℕ) (line : Line) (out : List ℕ) where
-  pub read-failed : (got : ℤ) → ltZ got (pos 0) ≡ true → AfterRead input buffer line out got (Stop false) buffer out
-  read-failed (pos n) e = absurd (omega (arith, ltb-true n 0 e))
-  read-failed (negsuc n) e = AfterRead.failed
-
-  pub read-ended : (got : ℤ) → ltZ got (pos 0) ≡ false → ofZ w64 got ≡ 0 → {n : ℕ} {out′ : List ℕ} → (n ≡ length (lastAnswer buffer line)) × (out′ ≡ put out 0 (lastAnswer buffer line))
-      → AfterRead input buffer line out got (WriteLast n) buffer out′
-  read-ended (negsuc n) e z f = absurd (clash refl e)
-  read-ended (pos zero) e z f = rw (f .0, f .1) ended
-  read-ended (pos (suc n)) e z f = absurd (omega arith)
-
-  pub read-some : (got : ℤ) → ltZ got (pos 0) ≡ false → (ofZ w64 got ≡ 0 → ⊥) → {n : ℕ} → n ≡ clamped got (length input) → {r : Next} {buffer′ out′ : List ℕ}
-      → WentOn (take n input) 0 buffer line out r buffer′ out′ → AfterRead input buffer line out got r buffer′ out′
-  unfolding pieceOf
-  read-some (negsuc k) e z c w = absurd (clash refl e)
-  read-some (pos zero) e z c w = absurd (z refl)
-  read-some (pos (suc k)) e z c w = came (rw c at w)
+use Rattle.line_runs.specs.declared.Waiting.{Waiting}
+use Rattle.line_runs.specs.declared.Next.{Next}
+use Rattle.line_runs.specs.declared.Next.the-variants.{Read, Write, WriteLast, Stop}
+use Rattle.line_runs.specs.After.{Ready, WentOn, WentOn.usedUp, WentOn.stepped, pieceOf, AfterRead, AfterRead.failed, AfterRead.ended, AfterRead.came, AfterWrite, AfterWrite.failed, AfterWrite.allWritten, lastAnswer, Acted}
+use Rattle.line_runs.specs.Runs.{Run, Run.begins, Run.reading, Run.writing, Run.writingLast, Ran}
 
 -- ---- within its room
 last-short : (buffer : List ℕ) (line : Line) → length (lastAnswer buffer line) ≤ mostBytes

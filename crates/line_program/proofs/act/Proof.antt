@@ -1,7 +1,7 @@
 -- `line_program::act` meets its contract.
 use mathlib.Core.Path.{refl, sym}
 use lib.Seq.{length-take-le}
-use Rattle.line_program.specs.After.{Ready, Acted}
+use Rattle.line_runs.specs.After.{Ready, Acted}
 use borrow.Author.Needs.{needs}
 use Rattle.line_program.proofs.act.Statement.{statement}
 use Rattle.line_program.proofs.act.Tie as tie

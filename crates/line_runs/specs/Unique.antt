@@ -11,10 +11,10 @@ use Rattle.lines.specs.declared.Progress.{Progress}
 use Rattle.lines.specs.Steps.{stepped-unique}
 use Rattle.line_promise.specs.Answer.{lineAnswer}
 use Rattle.line_promise.specs.Output.{mostBytes}
-use Rattle.line_program.specs.declared.Waiting.{Waiting}
-use Rattle.line_program.specs.declared.Next.{Next}
-use Rattle.line_program.specs.declared.Next.the-variants.{Write}
-use Rattle.line_program.specs.After.{WentOn, WentOn.usedUp, WentOn.stepped, AfterRead, AfterRead.failed, AfterRead.ended, AfterRead.came, AfterWrite, AfterWrite.failed, AfterWrite.allWritten}
+use Rattle.line_runs.specs.declared.Waiting.{Waiting}
+use Rattle.line_runs.specs.declared.Next.{Next}
+use Rattle.line_runs.specs.declared.Next.the-variants.{Write}
+use Rattle.line_runs.specs.After.{WentOn, WentOn.usedUp, WentOn.stepped, AfterRead, AfterRead.failed, AfterRead.ended, AfterRead.came, AfterWrite, AfterWrite.failed, AfterWrite.allWritten}
 
 pub one-way-on : {piece : List ℕ} {used : ℕ} {buffer : List ℕ} {line : Line} {out : List ℕ} {r q : Next} {buffer′ held out′ room : List ℕ} → WentOn piece used buffer line out r buffer′ out′
     → WentOn piece used buffer line out q held room → (r ≡ q) × (buffer′ ≡ held) × (out′ ≡ room)

@@ -8,10 +8,10 @@ use lib.ListN.{length, take}
 use Rattle.lines.specs.declared.Line.{Line}
 use Rattle.lines.specs.Taking.{noLine}
 use Rattle.line_promise.specs.Output.{mostBytes}
-use Rattle.line_program.specs.declared.Waiting.{Waiting}
-use Rattle.line_program.specs.declared.Next.{Next}
-use Rattle.line_program.specs.declared.Next.the-variants.{Read, Write, WriteLast, Stop}
-use Rattle.line_program.specs.After.{pieceOf, AfterRead, AfterWrite}
+use Rattle.line_runs.specs.declared.Waiting.{Waiting}
+use Rattle.line_runs.specs.declared.Next.{Next}
+use Rattle.line_runs.specs.declared.Next.the-variants.{Read, Write, WriteLast, Stop}
+use Rattle.line_runs.specs.After.{pieceOf, AfterRead, AfterWrite}
 
 -- a write takes all of its bytes, or it fails and has taken some
 abbrev pub Took : Bool → ℕ → ℕ → Type 0

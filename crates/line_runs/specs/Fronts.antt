@@ -21,11 +21,11 @@ use Rattle.lines.specs.Cuts.{writes-some}
 use Rattle.lines.specs.Steps.{roomFor}
 use Rattle.line_promise.specs.Answer.{lineAnswer}
 use Rattle.line_promise.specs.Output.{programOutput, mostBytes, writes-output}
-use Rattle.line_program.specs.declared.Waiting.{Waiting}
-use Rattle.line_program.specs.declared.Next.{Next}
-use Rattle.line_program.specs.declared.Next.the-variants.{Read, Write, WriteLast, Stop}
-use Rattle.line_program.specs.After.{WentOn, WentOn.usedUp, WentOn.stepped, lastAnswer, pieceOf, AfterRead, AfterRead.failed, AfterRead.ended, AfterRead.came, AfterWrite, AfterWrite.failed, AfterWrite.allWritten}
-use Rattle.line_program.specs.Runs.{Took, Run, Run.begins, Run.reading, Run.writing, Run.writingLast}
+use Rattle.line_runs.specs.declared.Waiting.{Waiting}
+use Rattle.line_runs.specs.declared.Next.{Next}
+use Rattle.line_runs.specs.declared.Next.the-variants.{Read, Write, WriteLast, Stop}
+use Rattle.line_runs.specs.After.{WentOn, WentOn.usedUp, WentOn.stepped, lastAnswer, pieceOf, AfterRead, AfterRead.failed, AfterRead.ended, AfterRead.came, AfterWrite, AfterWrite.failed, AfterWrite.allWritten}
+use Rattle.line_runs.specs.Runs.{Took, Run, Run.begins, Run.reading, Run.writing, Run.writingLast}
 
 put-taken : (out t : List ℕ) → take (length t) (put out 0 t) ≡ t
 put-taken out t = rw (put-front out t) (take-at t (drop (length t) out) (length t) refl)

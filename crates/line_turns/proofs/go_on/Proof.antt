@@ -1,9 +1,9 @@
--- `line_program::go_on` meets its contract.
+-- `line_turns::go_on` meets its contract.
 use Rattle.texts.specs.Slices.{tail-part}
-use Rattle.line_program.specs.After.{WentOn.usedUp, WentOn.stepped}
+use Rattle.line_runs.specs.After.{WentOn.usedUp, WentOn.stepped}
 use borrow.Author.Needs.{needs}
-use Rattle.line_program.proofs.go_on.Statement.{statement}
-use Rattle.line_program.proofs.go_on.Tie as tie
+use Rattle.line_turns.proofs.go_on.Statement.{statement}
+use Rattle.line_turns.proofs.go_on.Tie as tie
 
 returns : tie.Need-returns
 returns c = usedUp (c .if1 .taken)

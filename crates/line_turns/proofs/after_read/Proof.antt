@@ -1,9 +1,9 @@
--- `line_program::after_read` meets its contract.
+-- `line_turns::after_read` meets its contract.
 use mir.Facts.{toZ-ofZ}
-use Rattle.line_program.proofs.Laws.{read-failed, read-ended, read-some}
+use Rattle.line_turns.proofs.Laws.{read-failed, read-ended, read-some}
 use borrow.Author.Needs.{needs}
-use Rattle.line_program.proofs.after_read.Statement.{statement}
-use Rattle.line_program.proofs.after_read.Tie as tie
+use Rattle.line_turns.proofs.after_read.Statement.{statement}
+use Rattle.line_turns.proofs.after_read.Tie as tie
 
 returns : tie.Need-returns
 returns c =

@@ -1,10 +1,10 @@
--- `line_program::after_write` meets its contract.
+-- `line_turns::after_write` meets its contract.
 use mathlib.Core.Path.{sym}
 use lib.Seq.{length-take-le}
-use Rattle.line_program.specs.After.{AfterWrite.failed, AfterWrite.allWritten}
+use Rattle.line_runs.specs.After.{AfterWrite.failed, AfterWrite.allWritten}
 use borrow.Author.Needs.{needs}
-use Rattle.line_program.proofs.after_write.Statement.{statement}
-use Rattle.line_program.proofs.after_write.Tie as tie
+use Rattle.line_turns.proofs.after_write.Statement.{statement}
+use Rattle.line_turns.proofs.after_write.Tie as tie
 
 slice-aggregate-go-on : tie.Need-slice-aggregate-go-on
 slice-aggregate-go-on c =

@@ -13,9 +13,9 @@ use Rattle.lines.specs.Feeding.{writes, finished, clear}
 use Rattle.lines.specs.Steps.{Stepped}
 use Rattle.line_promise.specs.Answer.{lineAnswer}
 use Rattle.line_promise.specs.Output.{mostBytes}
-use Rattle.line_program.specs.declared.Waiting.{Waiting}
-use Rattle.line_program.specs.declared.Next.{Next}
-use Rattle.line_program.specs.declared.Next.the-variants.{Read, Write, WriteLast, Stop}
+use Rattle.line_runs.specs.declared.Waiting.{Waiting}
+use Rattle.line_runs.specs.declared.Next.{Next}
+use Rattle.line_runs.specs.declared.Next.the-variants.{Read, Write, WriteLast, Stop}
 
 -- what each needs of the room for the input, the line buffer and the room for the answers
 unfoldable pub Ready : Next → List ℕ → List ℕ → List ℕ → Type 0
