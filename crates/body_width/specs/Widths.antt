@@ -7,6 +7,8 @@ use lib.IntN.{ℤ}
 use Rattle.texts.specs.Tests.{none-some}
 use Rattle.record.specs.declared.variant.Kind.{Kind}
 use Rattle.record.specs.declared.variant.Kind.the-variants.{Cds, Genome, Mt, Tx, Prot, Rna}
+use Rattle.record.specs.declared.variant.Body.{Body}
+use Rattle.record.specs.declared.variant.Body.the-variants as Bo
 use Rattle.record.specs.declared.positions.GenomePos.{GenomePos}
 use Rattle.record.specs.declared.positions.GenomePos.the-variants as G
 use Rattle.record.specs.declared.positions.MtPos.{MtPos}
@@ -18,10 +20,12 @@ use Rattle.record.specs.declared.positions.MuTxInterval.the-variants as MuTx
 use Rattle.record.specs.declared.positions.MuRnaInterval.the-variants as MuRna
 use Rattle.record.specs.declared.positions.MuProtInterval.the-variants as MuProt
 use Rattle.grammar.specs.Records.{MuIntervalR}
-use Rattle.promise.specs.Width.{between, unshifted, anchored, genomeNumber, mtNumber, muCdsWidth, muGenomeWidth, muMtWidth, muTxWidth, muRnaWidth, muProtWidth}
+use Rattle.promise.specs.Width.{between, unshifted, anchored, genomeNumber, mtNumber, muCdsWidth, muGenomeWidth, muMtWidth, muTxWidth, muRnaWidth, muProtWidth, protWidth, bodyWidth}
 use Rattle.read_location.specs.declared.Position.{Position}
 use Rattle.read_location.specs.declared.Location.{Location}
-use Rattle.record_location.specs.Locations.{anyPosition, anyLocation}
+use Rattle.record_location.specs.declared.AnyBody.{AnyBody}
+use Rattle.record_location.specs.declared.AnyBody.the-variants.{Nucleotide, Protein}
+use Rattle.record_location.specs.Locations.{anyPosition, anyLocation, anyBody}
 use Rattle.body_width.specs.declared.BodyWidth.{BodyWidth}
 use Rattle.body_width.specs.declared.BodyWidth.the-variants.{NoWidth, Width}
 use Rattle.body_width.specs.declared.EndNumber.{EndNumber}
@@ -90,3 +94,19 @@ any-width Rna (MuRna.Uncertain i) = refl
 
 pub measured : (k : Kind) (l : MuIntervalR k) {o : Option ℕ} {any : Location} → o ≡ locationWidth any → any ≡ anyLocation k l → o ≡ kindWidth k l
 measured k l p q = p ∙ ap locationWidth q ∙ any-width k l
+
+-- ---- a body's
+abbrev pub anyWidth : AnyBody → Option ℕ
+anyWidth (Nucleotide k l e) = locationWidth l
+anyWidth (Protein p) = protWidth p
+
+any-body-width : (b : Body) → anyWidth (anyBody b) ≡ bodyWidth b
+any-body-width (Bo.Cds b) = any-width Cds (b .loc)
+any-body-width (Bo.Genome b) = any-width Genome (b .loc)
+any-body-width (Bo.Mt b) = any-width Mt (b .loc)
+any-body-width (Bo.Tx b) = any-width Tx (b .loc)
+any-body-width (Bo.Prot b) = refl
+any-body-width (Bo.Rna b) = any-width Rna (b .loc)
+
+pub body-measured : (b : Body) {o : Option ℕ} (any : AnyBody) → o ≡ anyWidth any → any ≡ anyBody b → o ≡ bodyWidth b
+body-measured b any p q = p ∙ ap anyWidth q ∙ any-body-width b

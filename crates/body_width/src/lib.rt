@@ -5,6 +5,7 @@ use record::positions::CdsFrom;
 use record::positions::Offset;
 use record::variant::Body;
 use record::variant::ProtLocEdit;
+use record_location::AnyBody;
 ghost use mathlib.Core.Path.{_≡_};
 ghost use Rattle.promise.specs.Width.{widthBetween, between, anchored, protWidth, bodyWidth};
 ghost use Rattle.body_width.specs.Widths.{widthGiven, numberGiven, endNumber, locationWidth};
@@ -100,27 +101,8 @@ fn prot_width(p: ProtLocEdit) -> BodyWidth
 pub fn body_width(b: Body) -> BodyWidth
     ensures { λ r. ⌜ widthGiven r ≡ bodyWidth b ⌝ }
 {
-    match b {
-        Body::Cds(e) => {
-            let loc = e.loc;
-            location_width(record_location::of_cds(loc))
-        }
-        Body::Genome(e) => {
-            let loc = e.loc;
-            location_width(record_location::of_genome(loc))
-        }
-        Body::Mt(e) => {
-            let loc = e.loc;
-            location_width(record_location::of_mt(loc))
-        }
-        Body::Tx(e) => {
-            let loc = e.loc;
-            location_width(record_location::of_tx(loc))
-        }
-        Body::Prot(p) => prot_width(p),
-        Body::Rna(e) => {
-            let loc = e.loc;
-            location_width(record_location::of_rna(loc))
-        }
+    match record_location::any_body(b) {
+        AnyBody::Nucleotide(_, l, _) => location_width(l),
+        AnyBody::Protein(p) => prot_width(p),
     }
 }

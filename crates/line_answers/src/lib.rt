@@ -7,9 +7,6 @@ use record::answers::ReadAnswer;
 ghost use Prim.Native.Nat.{_≤_};
 ghost use lib.ListN.{length};
 
-// An answer and LF are shorter: a record names no byte of its text more than twice, and each of the two texts behind it is no longer than 4,096 bytes.
-const MOST: usize = 20480;
-
 fn read(text: &[u8], long: bool) -> ReadAnswer {
     if long {
         return ReadAnswer::TooLong;
@@ -18,11 +15,11 @@ fn read(text: &[u8], long: bool) -> ReadAnswer {
 }
 
 // The answer to a text and, where they are wanted, the columns of its record.
-fn answer(text: &[u8], long: bool, out: &mut [u8], at: usize, columns: bool) -> usize
+fn answer(text: &[u8], long: bool, out: &mut [u8], columns: bool) -> usize
     ensures { λ r. ⌜ r ≤ length (now (out .entry)) ⌝ }
 {
     let r = read(text, long);
-    let behind = show::answer(text, out, at, r);
+    let behind = show::answer(text, out, 0, r);
     if columns {
         if let ReadAnswer::Accepted(v) = r {
             return columns::columns(text, out, behind, v);
@@ -32,26 +29,19 @@ fn answer(text: &[u8], long: bool, out: &mut [u8], at: usize, columns: bool) -> 
 }
 
 // The answer to a line, and LF.
-fn answer_line(buffer: &[u8], line: Line, out: &mut [u8], at: usize, columns: bool) -> usize
+fn answer_line(buffer: &[u8], line: Line, out: &mut [u8], columns: bool) -> usize
     requires { ⌜ line .len ≤ length (now buffer) ⌝ }
     ensures { λ r. ⌜ r ≤ length (now (out .entry)) ⌝ }
 {
     let len = line.len;
     let text = &buffer[..len];
-    let behind = answer(text, line.long, out, at, columns);
+    let behind = answer(text, line.long, out, columns);
     room::byte(out, behind, b'\n')
 }
 
 // One line of the piece, or as much of one as there is.
-fn turn(
-    piece: &[u8],
-    buffer: &mut [u8],
-    line: Line,
-    out: &mut [u8],
-    at: usize,
-    columns: bool,
-) -> Progress
-    requires { ⌜ (line .len ≤ length (now buffer)) × (at ≤ length (now out)) ⌝ }
+fn turn(piece: &[u8], buffer: &mut [u8], line: Line, out: &mut [u8], columns: bool) -> Progress
+    requires { ⌜ line .len ≤ length (now buffer) ⌝ }
     ensures { λ r. ⌜ (r .used ≤ length (now (piece .entry))) × (1 ≤ length (now (piece .entry)) → 1 ≤ r .used) × (r .line .len ≤ length (now (buffer .entry))) × (r .at ≤ length (now (out .entry))) ⌝ }
 {
     let t = lines::take(piece, buffer, line);
@@ -60,43 +50,14 @@ fn turn(
         return Progress {
             used: t.used,
             line: next,
-            at,
+            at: 0,
         };
     }
-    let behind = answer_line(buffer, next, out, at, columns);
+    let behind = answer_line(buffer, next, out, columns);
     Progress {
         used: t.used,
         line: lines::no_line(),
         at: behind,
-    }
-}
-
-// Lines of the piece, while there is room for one more answer.
-fn step(piece: &[u8], buffer: &mut [u8], line: Line, out: &mut [u8], columns: bool) -> Progress
-    requires { ⌜ line .len ≤ length (now buffer) ⌝ }
-    ensures { λ r. ⌜ (r .used ≤ length (now (piece .entry))) × (1 ≤ length (now (piece .entry)) → 1 ≤ r .used) × (r .line .len ≤ length (now (buffer .entry))) × (r .at ≤ length (now (out .entry))) ⌝ }
-{
-    let mut used: usize = 0;
-    let mut at: usize = 0;
-    let mut state = line;
-    while used < piece.len() {
-        let t = turn(&piece[used..], buffer, state, out, at, columns);
-        used += t.used;
-        at = t.at;
-        let next = t.line;
-        state = next;
-        if out.len() - at < MOST {
-            return Progress {
-                used,
-                line: state,
-                at,
-            };
-        }
-    }
-    Progress {
-        used,
-        line: state,
-        at,
     }
 }
 
@@ -114,16 +75,16 @@ fn over(piece: &[u8], buffer: &mut [u8], line: Line, out: &mut [u8], columns: bo
     let mut i: usize = 0;
     let mut state = line;
     while i < piece.len() {
-        let s = step(&piece[i..], buffer, state, out, columns);
-        let at = s.at;
-        let next = s.line;
+        let t = turn(&piece[i..], buffer, state, out, columns);
+        let at = t.at;
+        let next = t.line;
         if !io::write_all(STDOUT_FILENO, &out[..at]) {
             return Gone {
                 going: false,
                 line: next,
             };
         }
-        i += s.used;
+        i += t.used;
         state = next;
     }
     Gone {
@@ -137,7 +98,7 @@ fn finish(buffer: &[u8], line: Line, out: &mut [u8], columns: bool)
     requires { ⌜ line .len ≤ length (now buffer) ⌝ }
 {
     if lines::at_end(line) {
-        let at = answer_line(buffer, line, out, 0, columns);
+        let at = answer_line(buffer, line, out, columns);
         io::write_all(STDOUT_FILENO, &out[..at]);
     }
 }
@@ -173,6 +134,7 @@ fn every(input: &mut [u8], buffer: &mut [u8], out: &mut [u8], columns: bool) {
     }
 }
 
+// An answer and LF have fewer than 20,480 bytes: a record names no byte of its text more than twice, and each of the two texts behind it is no longer than 4,096 bytes.
 pub fn run(columns: bool) {
     let mut input = io::large_buffer();
     let mut buffer = [0u8; 4096];

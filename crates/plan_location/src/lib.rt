@@ -12,8 +12,15 @@ use record::variant::Kind;
 ghost use mathlib.Core.Path.{_≡_};
 ghost use mathlib.Core.Bool.{true};
 ghost use Rattle.alphabet.specs.Cells.{IsTable};
-ghost use Rattle.emit_place.specs.Texts.{noEnd};
 ghost use Rattle.plan_location.specs.Plan.{heldOffset, signMark, offsetSign, offsetAmount, endPlan, unsignedPlan, basedPlan, genomicPlan, residualPlan, positionPlan, bracketMark, placePlan, planLocation};
+
+pub const NO_END: End = End {
+    residue: rows::NO_SPAN,
+    mark: Mark::Nothing,
+    number: Amount::Absent,
+    sign: Mark::Nothing,
+    offset: Amount::Absent,
+};
 
 // A position that is to be written, where it has a text.
 pub enum EndPlan {
@@ -57,86 +64,82 @@ fn offset_amount(offset: Offset) -> Amount
     }
 }
 
-// A residue or none, a mark or none, a number without its sign, an offset.
-fn plan_end(residue: Span, mark: Mark, number: i32, offset: Offset) -> EndPlan
-    ensures { λ r. ⌜ r ≡ endPlan residue mark number offset ⌝ }
+// A residue or none, a mark or none, the position's number without its sign, an offset.
+fn plan_end(residue: Span, mark: Mark, p: Position, offset: Offset) -> EndPlan
+    ensures { λ r. ⌜ r ≡ endPlan residue mark (p .number) offset ⌝ }
 {
     EndPlan::Text(End {
         residue,
         mark,
-        number: Amount::Count(number::magnitude(number)),
+        number: Amount::Count(number::magnitude(p.number)),
         sign: offset_sign(offset),
         offset: offset_amount(offset),
     })
 }
 
 // An unsigned number has a text only from 0 on.
-fn plan_unsigned(residue: Span, mark: Mark, number: i32, offset: Offset) -> EndPlan
-    ensures { λ r. ⌜ r ≡ unsignedPlan residue mark number offset ⌝ }
+fn plan_unsigned(residue: Span, mark: Mark, p: Position, offset: Offset) -> EndPlan
+    ensures { λ r. ⌜ r ≡ unsignedPlan residue mark (p .number) offset ⌝ }
 {
-    if number < 0 {
+    if p.number < 0 {
         return EndPlan::NoText;
     }
-    plan_end(residue, mark, number, offset)
+    plan_end(residue, mark, p, offset)
 }
 
 // c, n, r
-fn plan_based(from: CdsFrom, number: i32, offset: Offset) -> EndPlan
-    ensures { λ r. ⌜ r ≡ basedPlan from number offset ⌝ }
+fn plan_based(from: CdsFrom, p: Position) -> EndPlan
+    ensures { λ r. ⌜ r ≡ basedPlan from (p .number) (p .offset) ⌝ }
 {
+    let offset = p.offset;
     match from {
-        CdsFrom::Start => plan_end(
-            rows::no_span(),
-            sign_mark(Mark::Nothing, number),
-            number,
-            offset,
-        ),
-        CdsFrom::End => plan_unsigned(rows::no_span(), Mark::Byte(b'*'), number, offset),
+        CdsFrom::Start => plan_end(rows::NO_SPAN, sign_mark(Mark::Nothing, p.number), p, offset),
+        CdsFrom::End => plan_unsigned(rows::NO_SPAN, Mark::Byte(b'*'), p, offset),
     }
 }
 
 // g, m
-fn plan_genomic(unknown: bool, number: i32) -> EndPlan
-    ensures { λ r. ⌜ r ≡ genomicPlan unknown number ⌝ }
+fn plan_genomic(p: Position) -> EndPlan
+    ensures { λ r. ⌜ r ≡ genomicPlan (p .unknown) (p .number) ⌝ }
 {
-    if unknown {
+    if p.unknown {
         return EndPlan::Text(End {
-            residue: rows::no_span(),
+            residue: rows::NO_SPAN,
             mark: Mark::Byte(b'?'),
             number: Amount::Absent,
             sign: Mark::Nothing,
             offset: Amount::Absent,
         });
     }
-    plan_unsigned(rows::no_span(), Mark::Nothing, number, Offset::Absent)
+    plan_unsigned(rows::NO_SPAN, Mark::Nothing, p, Offset::Absent)
 }
 
 // p
-fn plan_residual(table: &[u8; 256], source: &[u8], aa: Span, number: i32) -> EndPlan
+fn plan_residual(table: &[u8; 256], source: &[u8], p: Position) -> EndPlan
     requires { ⌜ IsTable (now table) ⌝ }
-    ensures { λ r. ⌜ r ≡ residualPlan (now (source .entry)) aa number ⌝ }
+    ensures { λ r. ⌜ r ≡ residualPlan (now (source .entry)) (p .aa) (p .number) ⌝ }
 {
+    let aa = p.aa;
     if residue::is_residue(table, parts::part_of(source, aa)) {
-        return plan_unsigned(aa, Mark::Nothing, number, Offset::Absent);
+        return plan_unsigned(aa, Mark::Nothing, p, Offset::Absent);
     }
     EndPlan::NoText
 }
 
-pub fn plan_position(table: &[u8; 256], source: &[u8], kind: Kind, p: Position) -> EndPlan
+fn plan_position(table: &[u8; 256], source: &[u8], kind: Kind, p: Position) -> EndPlan
     requires { ⌜ IsTable (now table) ⌝ }
     ensures { λ r. ⌜ r ≡ positionPlan (now (source .entry)) kind p ⌝ }
 {
-    let aa = p.aa;
-    let number = p.number;
-    let cds_from = p.cds_from;
-    let offset = p.offset;
     match kind {
-        Kind::Cds => plan_based(cds_from, number, offset),
-        Kind::Genome => plan_genomic(p.unknown, number),
-        Kind::Mt => plan_genomic(p.unknown, number),
-        Kind::Tx => plan_based(CdsFrom::Start, number, offset),
-        Kind::Prot => plan_residual(table, source, aa, number),
-        Kind::Rna => plan_based(CdsFrom::Start, number, offset),
+        Kind::Cds => {
+            let from = p.cds_from;
+            plan_based(from, p)
+        }
+        Kind::Genome => plan_genomic(p),
+        Kind::Mt => plan_genomic(p),
+        Kind::Tx => plan_based(CdsFrom::Start, p),
+        Kind::Prot => plan_residual(table, source, p),
+        Kind::Rna => plan_based(CdsFrom::Start, p),
     }
 }
 
@@ -170,18 +173,6 @@ fn plan_place(certain: bool, start: EndPlan, joint: Mark, end: EndPlan) -> Place
     })
 }
 
-fn no_end() -> EndPlan
-    ensures { λ r. ⌜ r ≡ EndPlan.Text noEnd ⌝ }
-{
-    EndPlan::Text(End {
-        residue: rows::no_span(),
-        mark: Mark::Nothing,
-        number: Amount::Absent,
-        sign: Mark::Nothing,
-        offset: Amount::Absent,
-    })
-}
-
 // What is to be written for a location, where it has a text.
 pub fn plan_location(table: &[u8; 256], source: &[u8], kind: Kind, l: Location) -> PlacePlan
     requires { ⌜ IsTable (now table) ⌝ }
@@ -191,7 +182,7 @@ pub fn plan_location(table: &[u8; 256], source: &[u8], kind: Kind, l: Location) 
     let end = l.end;
     let first = plan_position(table, source, kind, start);
     if same_position::same_position(source, kind, start, end) {
-        return plan_place(l.certain, first, Mark::Nothing, no_end());
+        return plan_place(l.certain, first, Mark::Nothing, EndPlan::Text(NO_END));
     }
     plan_place(
         l.certain,

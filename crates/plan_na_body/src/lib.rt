@@ -1,7 +1,5 @@
 // What is to be written for a nucleotide body: its location, then its edit, which stands in brackets where it is not certain.
 use draft::Body;
-use emit_place::Place;
-use emit_row::Row;
 use plan_location::PlacePlan;
 use read_location::Location;
 use record::edits::MuNaEdit;
@@ -10,7 +8,7 @@ use record::variant::Kind;
 use rows::RowPlan;
 ghost use mathlib.Core.Path.{_≡_};
 ghost use Rattle.alphabet.specs.Cells.{IsTable};
-ghost use Rattle.plan_na_body.specs.Plan.{besideBody, joinedPlan, replacedRow, naRow, isCertain, editOf, planNaBody};
+ghost use Rattle.plan_na_body.specs.Plan.{joinedPlan, naRow, isCertain, editOf, planNaBody};
 
 // A body that is to be written, where it has a text.
 pub enum BodyPlan {
@@ -18,37 +16,21 @@ pub enum BodyPlan {
     Text(Body),
 }
 
-fn beside(place: Place, certain: bool, row: Row) -> Body
-    ensures { λ r. ⌜ r ≡ besideBody place certain row ⌝ }
+fn joined(certain: bool, place: PlacePlan, row: RowPlan) -> BodyPlan
+    ensures { λ r. ⌜ r ≡ joinedPlan certain place row ⌝ }
 {
-    Body {
+    let PlacePlan::Text(place) = place else {
+        return BodyPlan::NoText;
+    };
+    let RowPlan::Text(row) = row else {
+        return BodyPlan::NoText;
+    };
+    BodyPlan::Text(Body {
         place,
         opening: plan_location::bracket(certain, b'('),
         row,
         closing: plan_location::bracket(certain, b')'),
-    }
-}
-
-fn joined(certain: bool, place: PlacePlan, row: RowPlan) -> BodyPlan
-    ensures { λ r. ⌜ r ≡ joinedPlan certain place row ⌝ }
-{
-    let PlacePlan::Text(p) = place else {
-        return BodyPlan::NoText;
-    };
-    let RowPlan::Text(e) = row else {
-        return BodyPlan::NoText;
-    };
-    BodyPlan::Text(beside(p, certain, e))
-}
-
-// Another row for an edit that has a text.
-fn replaced(planned: RowPlan, row: Row) -> RowPlan
-    ensures { λ r. ⌜ r ≡ replacedRow planned row ⌝ }
-{
-    match planned {
-        RowPlan::NoText => RowPlan::NoText,
-        RowPlan::Text(_) => RowPlan::Text(row),
-    }
+    })
 }
 
 // Shortest, or without the reference; an edit that has no text has none without the reference either.
@@ -60,7 +42,11 @@ fn na_row(table: &[u8; 256], source: &[u8], shortest: bool, e: NaEdit) -> RowPla
     if shortest {
         return planned;
     }
-    replaced(planned, plan_no_ref::no_ref(source, e))
+    let row = plan_no_ref::no_ref(source, e);
+    match planned {
+        RowPlan::NoText => RowPlan::NoText,
+        RowPlan::Text(_) => RowPlan::Text(row),
+    }
 }
 
 fn is_certain(e: MuNaEdit) -> bool

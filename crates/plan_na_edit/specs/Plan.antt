@@ -28,8 +28,8 @@ delInsRow p q = record { first = noSpan; word = Del; second = p; sign = Nothing;
 abbrev pub countRow : Word → ℕ → Word → Span → Row
 countRow word v joint q = record { first = noSpan; word = word; second = noSpan; sign = Nothing; amount = Count v; joint = joint; last = q }
 
-abbrev pub planCount : Word → ℤ → RowPlan
-planCount word n = rowIf (isUnsigned n) (countRow word (natAbs n) Empty noSpan)
+abbrev pub planCount : Word → ℤ → Word → Span → RowPlan
+planCount word n joint q = rowIf (isUnsigned n) (countRow word (natAbs n) joint q)
 
 module _ (s : List ℕ) where
   -- `a=`, else `A>T`, else `del` a `ins` b with letters b
@@ -43,7 +43,7 @@ module _ (s : List ℕ) where
   planRefAlt p q = cond (isSeq s p && isSeq s q) (planChange p q) NoText
 
   unfoldable pub planNumAlt : ℤ → Span → RowPlan
-  planNumAlt n q = cond (isSeq1 s q) (rowIf (isUnsigned n) (countRow Del (natAbs n) Ins q)) NoText
+  planNumAlt n q = cond (isSeq1 s q) (planCount Del n Ins q) NoText
 
   abbrev pub planSeq : Word → Span → RowPlan
   planSeq word p = rowIf (isSeq s p) (wordRow word p)
@@ -55,8 +55,8 @@ module _ (s : List ℕ) where
   planNaEdit (Na.RefAlt p q) = planRefAlt p q
   planNaEdit (Na.NumAlt n q) = planNumAlt n q
   planNaEdit (Na.DelRef p) = planSeq Del p
-  planNaEdit (Na.DelNum n) = planCount Del n
+  planNaEdit (Na.DelNum n) = planCount Del n Empty noSpan
   planNaEdit (Na.Ins q) = planIns q
   planNaEdit (Na.Dup p) = planSeq Dup p
   planNaEdit (Na.InvRef p) = planSeq Inv p
-  planNaEdit (Na.InvNum n) = planCount Inv n
+  planNaEdit (Na.InvNum n) = planCount Inv n Empty noSpan

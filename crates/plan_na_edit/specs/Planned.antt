@@ -68,18 +68,19 @@ module _ (s : List ℕ) where
       (λ k. row-text s printNaEdit _ (swap (getD (part s p) 0 0) (getD (part s q) 0 0)) (swap-text p q k))
       (λ k. row-if s printNaEdit (leb 1 (length (part s q))) _ (delIns (part s p) (part s q)) (change-text p q)))
 
-  count-planned : (word : Word) (f : List ℕ → Tree.NaEdit) (n : ℤ) → ((ds : List ℕ) → printNaEdit (f ds) ≡ wordText word ++ ds) → planText s (planCount word n) ≡ mapO printNaEdit (mapO f (unsignedDigits n))
-  count-planned word f n h =
+  count-planned : (word : Word) (joint : Word) (q : Span) (f : List ℕ → Tree.NaEdit) (n : ℤ) → ((ds : List ℕ) → wordText word ++ (ds ++ (wordText joint ++ part s q)) ≡ printNaEdit (f ds))
+      → planText s (planCount word n joint q) ≡ mapO printNaEdit (mapO f (unsignedDigits n))
+  count-planned word joint q f n h =
       rw (counted-is f n)
-      (row-if s printNaEdit (isUnsigned n) _ (f (dec (natAbs n))) (count-text word (natAbs n) Empty noSpan ∙ rw (no-part s, append-nil (dec (natAbs n)), h (dec (natAbs n)))))
+      (row-if s printNaEdit (isUnsigned n) _ (f (dec (natAbs n))) (count-text word (natAbs n) joint q ∙ h (dec (natAbs n))))
+
+  -- digits, and nothing behind them
+  digits-alone : (word : Word) (ds : List ℕ) → wordText word ++ (ds ++ part s noSpan) ≡ wordText word ++ ds
+  digits-alone word ds = rw (no-part s, append-nil ds)
 
   num-alt-planned : (n : ℤ) (q : Span) → planText s (planNumAlt s n q) ≡ mapO printNaEdit (canonNaEdit nucleotide (naEditContent s (Na.NumAlt n q)))
   unfolding planNumAlt
-  num-alt-planned n q =
-      rw (counted-is (λ ds. delNumIns ds (part s q)) n)
-      (either s printNaEdit (isSeq1 s q) _ _ _ _
-      (λ h. row-if s printNaEdit (isUnsigned n) _ (delNumIns (dec (natAbs n)) (part s q)) (count-text Del (natAbs n) Ins q))
-      (λ h. refl))
+  num-alt-planned n q = either s printNaEdit (isSeq1 s q) _ _ _ _ (λ h. count-planned Del Ins q (λ ds. delNumIns ds (part s q)) n (λ ds. refl)) (λ h. refl)
 
   ref-alt-planned : (p q : Span) → planText s (planRefAlt s p q) ≡ mapO printNaEdit (canonNaEdit nucleotide (naEditContent s (Na.RefAlt p q)))
   unfolding planRefAlt
@@ -89,8 +90,8 @@ module _ (s : List ℕ) where
   planned (Na.RefAlt p q) = ref-alt-planned p q
   planned (Na.NumAlt n q) = num-alt-planned n q
   planned (Na.DelRef p) = row-if s printNaEdit (isSeq s p) _ (del (part s p)) (word-text s Del p)
-  planned (Na.DelNum n) = count-planned Del delNum n (λ ds. refl)
+  planned (Na.DelNum n) = count-planned Del Empty noSpan delNum n (digits-alone Del)
   planned (Na.Ins q) = row-if s printNaEdit (isSeq1 s q) _ (ins (part s q)) (word-text s Ins q)
   planned (Na.Dup p) = row-if s printNaEdit (isSeq s p) _ (dup (part s p)) (word-text s Dup p)
   planned (Na.InvRef p) = row-if s printNaEdit (isSeq s p) _ (inv (part s p)) (word-text s Inv p)
-  planned (Na.InvNum n) = count-planned Inv invNum n (λ ds. refl)
+  planned (Na.InvNum n) = count-planned Inv Empty noSpan invNum n (digits-alone Inv)

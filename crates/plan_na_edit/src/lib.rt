@@ -16,7 +16,7 @@ fn del_ins_row(p: Span, q: Span) -> Row
     ensures { λ r. ⌜ r ≡ delInsRow p q ⌝ }
 {
     Row {
-        first: rows::no_span(),
+        first: rows::NO_SPAN,
         word: Word::Del,
         second: p,
         sign: Mark::Nothing,
@@ -30,9 +30,9 @@ fn count_row(word: Word, v: u32, joint: Word, q: Span) -> Row
     ensures { λ r. ⌜ r ≡ countRow word v joint q ⌝ }
 {
     Row {
-        first: rows::no_span(),
+        first: rows::NO_SPAN,
         word,
-        second: rows::no_span(),
+        second: rows::NO_SPAN,
         sign: Mark::Nothing,
         amount: Amount::Count(v),
         joint,
@@ -46,7 +46,7 @@ fn plan_change(source: &[u8], p: Span, q: Span) -> RowPlan
     ensures { λ r. ⌜ r ≡ planChange (now (source .entry)) p q ⌝ }
 {
     if na_edit_tests::same_parts(source, p, q) {
-        return RowPlan::Text(rows::letters_row(p, Word::Equal, rows::no_span()));
+        return RowPlan::Text(rows::letters_row(p, Word::Equal, rows::NO_SPAN));
     }
     if na_edit_tests::ones_parts(source, p, q) {
         return RowPlan::Text(rows::letters_row(p, Word::Greater, q));
@@ -67,26 +67,24 @@ fn plan_ref_alt(table: &[u8; 256], source: &[u8], p: Span, q: Span) -> RowPlan
     plan_change(source, p, q)
 }
 
+// A number that unsigned digits may be.
+fn plan_count(word: Word, n: i32, joint: Word, q: Span) -> RowPlan
+    ensures { λ r. ⌜ r ≡ planCount word n joint q ⌝ }
+{
+    rows::row_if(
+        rows::is_unsigned(n),
+        count_row(word, number::magnitude(n), joint, q),
+    )
+}
+
 fn plan_num_alt(table: &[u8; 256], source: &[u8], n: i32, q: Span) -> RowPlan
     requires { ⌜ IsTable (now table) ⌝ }
     ensures { λ r. ⌜ r ≡ planNumAlt (now (source .entry)) n q ⌝ }
 {
-    if !na_edit_tests::is_seq1(table, source, q) {
-        return RowPlan::NoText;
+    if na_edit_tests::is_seq1(table, source, q) {
+        return plan_count(Word::Del, n, Word::Ins, q);
     }
-    rows::row_if(
-        rows::is_unsigned(n),
-        count_row(Word::Del, number::magnitude(n), Word::Ins, q),
-    )
-}
-
-fn plan_count(word: Word, n: i32) -> RowPlan
-    ensures { λ r. ⌜ r ≡ planCount word n ⌝ }
-{
-    rows::row_if(
-        rows::is_unsigned(n),
-        count_row(word, number::magnitude(n), Word::Empty, rows::no_span()),
-    )
+    RowPlan::NoText
 }
 
 fn plan_seq(table: &[u8; 256], source: &[u8], word: Word, p: Span) -> RowPlan
@@ -118,10 +116,10 @@ pub fn plan_na_edit(table: &[u8; 256], source: &[u8], e: NaEdit) -> RowPlan
         NaEdit::RefAlt(p, q) => plan_ref_alt(table, source, p, q),
         NaEdit::NumAlt(n, q) => plan_num_alt(table, source, n, q),
         NaEdit::DelRef(p) => plan_seq(table, source, Word::Del, p),
-        NaEdit::DelNum(n) => plan_count(Word::Del, n),
+        NaEdit::DelNum(n) => plan_count(Word::Del, n, Word::Empty, rows::NO_SPAN),
         NaEdit::Ins(q) => plan_ins(table, source, q),
         NaEdit::Dup(p) => plan_seq(table, source, Word::Dup, p),
         NaEdit::InvRef(p) => plan_seq(table, source, Word::Inv, p),
-        NaEdit::InvNum(n) => plan_count(Word::Inv, n),
+        NaEdit::InvNum(n) => plan_count(Word::Inv, n, Word::Empty, rows::NO_SPAN),
     }
 }

@@ -21,7 +21,6 @@ ghost use mathlib.Core.Bool.{_||_, not};
 ghost use Rattle.texts.specs.Words.{same};
 ghost use Rattle.alphabet.specs.Cells.{IsTable};
 ghost use Rattle.grammar.specs.Spans.{part};
-ghost use Rattle.emit_place.specs.Texts.{noEnd};
 ghost use Rattle.plan_protein_body.specs.Plan.{isMetOne, isUnknownEdit, isAlike, isBarred, placeAt, met01Place, bodyOf, togetherPlan, planOrdinary, planMuProtein, wordBody, planProteinBody};
 
 // ---- the Met-1 `?` record: its composed text would be `Met1?` or `(Met1?)`, which read as another
@@ -87,18 +86,6 @@ fn is_barred(source: &[u8], l: Location, certain: bool, e: ProteinEdit) -> bool
 
 // ---- places
 
-fn no_end() -> End
-    ensures { λ r. ⌜ r ≡ noEnd ⌝ }
-{
-    End {
-        residue: rows::no_span(),
-        mark: Mark::Nothing,
-        number: Amount::Absent,
-        sign: Mark::Nothing,
-        offset: Amount::Absent,
-    }
-}
-
 fn place_at(start: End) -> Place
     ensures { λ r. ⌜ r ≡ placeAt start ⌝ }
 {
@@ -106,7 +93,7 @@ fn place_at(start: End) -> Place
         opening: Mark::Nothing,
         start,
         joint: Mark::Nothing,
-        end: no_end(),
+        end: plan_location::NO_END,
         closing: Mark::Nothing,
     }
 }
@@ -212,7 +199,7 @@ fn word_body(word: Word) -> BodyPlan
     ensures { λ r. ⌜ r ≡ wordBody word ⌝ }
 {
     BodyPlan::Text(Body {
-        place: place_at(no_end()),
+        place: place_at(plan_location::NO_END),
         opening: Mark::Nothing,
         row: rows::word_alone(word),
         closing: Mark::Nothing,

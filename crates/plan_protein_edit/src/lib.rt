@@ -18,7 +18,7 @@ fn span_of(p: Part) -> Span
     ensures { λ r. ⌜ r ≡ spanOf p ⌝ }
 {
     match p {
-        Part::Absent => rows::no_span(),
+        Part::Absent => rows::NO_SPAN,
         Part::Present(p) => p,
     }
 }
@@ -54,7 +54,7 @@ fn end_row(residue: Part, word: Word, end: Part, sign: Mark, n: UncertainLengthC
         sign,
         amount: amount_of(n),
         joint: joint_of(n),
-        last: rows::no_span(),
+        last: rows::NO_SPAN,
     }
 }
 
@@ -165,7 +165,7 @@ fn plan_subst(table: &[u8; 256], source: &[u8], p: Span) -> RowPlan
 {
     rows::row_if(
         protein_edit_tests::is_subst(table, source, p),
-        rows::letters_row(p, Word::Empty, rows::no_span()),
+        rows::letters_row(p, Word::Empty, rows::NO_SPAN),
     )
 }
 

@@ -15,7 +15,9 @@ use Rattle.record.specs.declared.variant.Body.the-variants as Bo
 use Rattle.record.specs.declared.variant.HgvsVariant.{HgvsVariant}
 use Rattle.grammar.specs.Contents.{headerContent}
 use Rattle.headers.specs.Canonical.{canonHeader}
-use Rattle.record_location.specs.Locations.{anyLocation}
+use Rattle.record_location.specs.declared.AnyBody.{AnyBody}
+use Rattle.record_location.specs.declared.AnyBody.the-variants.{Nucleotide, Protein}
+use Rattle.record_location.specs.Locations.{anyBody}
 use Rattle.emit_piece.specs.declared.Mark.the-variants.{Nothing, Byte}
 use Rattle.emit_piece.specs.Texts.{noSpan}
 use Rattle.draft.specs.declared.Heading.{Heading}
@@ -24,8 +26,6 @@ use Rattle.plan_na_body.specs.declared.BodyPlan.{BodyPlan}
 use Rattle.plan_na_body.specs.declared.BodyPlan.the-variants as Bodies
 use Rattle.plan_na_body.specs.Plan.{planNaBody}
 use Rattle.plan_protein_body.specs.Plan.{planProteinBody}
-use Rattle.plan_text.specs.declared.AnyBody.{AnyBody}
-use Rattle.plan_text.specs.declared.AnyBody.the-variants.{Nucleotide, Protein}
 use Rattle.plan_text.specs.declared.TextPlan.{TextPlan}
 use Rattle.plan_text.specs.declared.TextPlan.the-variants.{NoText, Text}
 
@@ -48,15 +48,6 @@ headingOf h k = headingWith (h .accession) (h .«gene_symbol») k
 abbrev pub draftedPlan : Heading → BodyPlan → TextPlan
 draftedPlan h Bodies.NoText = NoText
 draftedPlan h (Bodies.Text b) = Text (record { heading = h; body = b })
-
--- the location of each kind as one of any kind
-abbrev pub anyBody : Body → AnyBody
-anyBody (Bo.Cds b) = Nucleotide Cds (anyLocation Cds (b .loc)) (b .edit)
-anyBody (Bo.Genome b) = Nucleotide Genome (anyLocation Genome (b .loc)) (b .edit)
-anyBody (Bo.Mt b) = Nucleotide Mt (anyLocation Mt (b .loc)) (b .edit)
-anyBody (Bo.Tx b) = Nucleotide Tx (anyLocation Tx (b .loc)) (b .edit)
-anyBody (Bo.Prot b) = Protein b
-anyBody (Bo.Rna b) = Nucleotide Rna (anyLocation Rna (b .loc)) (b .edit)
 
 module _ (s : List ℕ) (isShortest : Bool) where
   abbrev pub planAny : AnyBody → BodyPlan

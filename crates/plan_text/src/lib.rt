@@ -3,28 +3,20 @@ use draft::Draft;
 use draft::Heading;
 use emit_piece::Mark;
 use plan_na_body::BodyPlan;
-use read_location::Location;
-use record::edits::MuNaEdit;
 use record::spans::Part;
 use record::variant::Body;
 use record::variant::Header;
 use record::variant::HgvsVariant;
 use record::variant::Kind;
-use record::variant::ProtLocEdit;
+use record_location::AnyBody;
 ghost use mathlib.Core.Path.{_≡_};
 ghost use Rattle.alphabet.specs.Cells.{IsTable};
-ghost use Rattle.plan_text.specs.Plan.{kindOf, anyBody, planBody, headingOf, draftedPlan, textPlan};
+ghost use Rattle.plan_text.specs.Plan.{kindOf, planBody, headingOf, draftedPlan, textPlan};
 
 // A text that is to be written, where there is one.
 pub enum TextPlan {
     NoText,
     Text(Draft),
-}
-
-// A body of any nucleotide kind, or of p.
-enum AnyBody {
-    Nucleotide(Kind, Location, MuNaEdit),
-    Protein(ProtLocEdit),
 }
 
 fn kind_of(b: Body) -> Kind
@@ -50,7 +42,7 @@ fn heading(h: Header, kind: Kind) -> Heading
         Part::Absent => Heading {
             accession,
             opening: Mark::Nothing,
-            gene: rows::no_span(),
+            gene: rows::NO_SPAN,
             closing: Mark::Nothing,
             kind,
         },
@@ -64,45 +56,11 @@ fn heading(h: Header, kind: Kind) -> Heading
     }
 }
 
-// The location of each kind as one of any kind.
-fn any_body(b: Body) -> AnyBody
-    ensures { λ r. ⌜ r ≡ anyBody b ⌝ }
-{
-    match b {
-        Body::Cds(x) => {
-            let loc = x.loc;
-            let edit = x.edit;
-            AnyBody::Nucleotide(Kind::Cds, record_location::of_cds(loc), edit)
-        }
-        Body::Genome(x) => {
-            let loc = x.loc;
-            let edit = x.edit;
-            AnyBody::Nucleotide(Kind::Genome, record_location::of_genome(loc), edit)
-        }
-        Body::Mt(x) => {
-            let loc = x.loc;
-            let edit = x.edit;
-            AnyBody::Nucleotide(Kind::Mt, record_location::of_mt(loc), edit)
-        }
-        Body::Tx(x) => {
-            let loc = x.loc;
-            let edit = x.edit;
-            AnyBody::Nucleotide(Kind::Tx, record_location::of_tx(loc), edit)
-        }
-        Body::Prot(x) => AnyBody::Protein(x),
-        Body::Rna(x) => {
-            let loc = x.loc;
-            let edit = x.edit;
-            AnyBody::Nucleotide(Kind::Rna, record_location::of_rna(loc), edit)
-        }
-    }
-}
-
 fn plan_body(table: &[u8; 256], source: &[u8], shortest: bool, b: Body) -> BodyPlan
     requires { ⌜ IsTable (now table) ⌝ }
     ensures { λ r. ⌜ r ≡ planBody (now (source .entry)) shortest b ⌝ }
 {
-    match any_body(b) {
+    match record_location::any_body(b) {
         AnyBody::Nucleotide(kind, l, edit) => {
             plan_na_body::plan_na_body(table, source, shortest, kind, l, edit)
         }

@@ -6,7 +6,6 @@ use record::edits::ProteinEdit;
 use record::positions::MuProtInterval;
 use record::positions::ProtInterval;
 use record::spans::Part;
-use record::spans::Span;
 use record::variant::Body;
 use record::variant::HgvsVariant;
 use record::variant::ProtLocEdit;
@@ -24,11 +23,11 @@ fn optional_inside(n: usize, part: Part) -> bool
     }
 }
 
-fn both_inside(n: usize, p: Span, q: Span) -> bool
-    ensures { λ r. ⌜ r ≡ inside n p && inside n q ⌝ }
+fn optionals_inside(n: usize, p: Part, q: Part) -> bool
+    ensures { λ r. ⌜ r ≡ insideOptional n p && insideOptional n q ⌝ }
 {
-    if parts::inside(n, p) {
-        return parts::inside(n, q);
+    if optional_inside(n, p) {
+        return optional_inside(n, q);
     }
     false
 }
@@ -37,7 +36,7 @@ fn na_edit_inside(n: usize, edit: NaEdit) -> bool
     ensures { λ r. ⌜ r ≡ naEditInside n edit ⌝ }
 {
     match edit {
-        NaEdit::RefAlt(p, q) => both_inside(n, p, q),
+        NaEdit::RefAlt(p, q) => optionals_inside(n, Part::Present(p), Part::Present(q)),
         NaEdit::NumAlt(_, q) => parts::inside(n, q),
         NaEdit::DelRef(p) => parts::inside(n, p),
         NaEdit::DelNum(_) => true,
@@ -55,15 +54,6 @@ fn mu_na_edit_inside(n: usize, edit: MuNaEdit) -> bool
         MuNaEdit::Certain(e) => na_edit_inside(n, e),
         MuNaEdit::Uncertain(e) => na_edit_inside(n, e),
     }
-}
-
-fn optionals_inside(n: usize, p: Part, q: Part) -> bool
-    ensures { λ r. ⌜ r ≡ insideOptional n p && insideOptional n q ⌝ }
-{
-    if optional_inside(n, p) {
-        return optional_inside(n, q);
-    }
-    false
 }
 
 fn protein_edit_inside(n: usize, edit: ProteinEdit) -> bool
@@ -97,7 +87,7 @@ fn prot_interval_inside(n: usize, i: ProtInterval) -> bool
     let end = i.end;
     let p = start.aa;
     let q = end.aa;
-    both_inside(n, p, q)
+    optionals_inside(n, Part::Present(p), Part::Present(q))
 }
 
 fn prot_location_inside(n: usize, loc: MuProtInterval) -> bool
@@ -162,13 +152,10 @@ pub fn spans_inside(n: usize, v: HgvsVariant) -> bool
 {
     let header = v.header;
     let accession = header.accession;
-    if !parts::inside(n, accession) {
-        return false;
-    }
     let gene = header.gene_symbol;
-    if !optional_inside(n, gene) {
-        return false;
+    if optionals_inside(n, Part::Present(accession), gene) {
+        let body = v.body;
+        return body_inside(n, body);
     }
-    let body = v.body;
-    body_inside(n, body)
+    false
 }

@@ -1,9 +1,11 @@
--- A position and a location of a record, as those of any kind; and back again they are the record's.
+-- A position, a location and a body of a record, as those of any kind; and back again the location is the record's.
 use mathlib.Core.Path.{_≡_, refl}
 use mathlib.Core.Bool.{Bool, true, false}
 use lib.IntN.{ℤ, pos}
 use Rattle.record.specs.declared.variant.Kind.{Kind}
 use Rattle.record.specs.declared.variant.Kind.the-variants.{Cds, Genome, Mt, Tx, Prot, Rna}
+use Rattle.record.specs.declared.variant.Body.{Body}
+use Rattle.record.specs.declared.variant.Body.the-variants as Bo
 use Rattle.record.specs.declared.positions.CdsFrom.{CdsFrom}
 use Rattle.record.specs.declared.positions.CdsFrom.the-variants.{Start}
 use Rattle.record.specs.declared.positions.Offset.{Offset}
@@ -19,15 +21,17 @@ use Rattle.record.specs.declared.positions.MuProtInterval.the-variants as MuPro
 use Rattle.grammar.specs.Records.{span, PositionR, MuIntervalR}
 use Rattle.read_location.specs.declared.Position.{Position}
 use Rattle.read_location.specs.declared.Location.{Location}
-use Rattle.read_location.specs.Records.{positionFor, locationFor}
+use Rattle.read_location.specs.Records.{positionFor, muFor, locationFor}
+use Rattle.record_location.specs.declared.AnyBody.{AnyBody}
+use Rattle.record_location.specs.declared.AnyBody.the-variants.{Nucleotide, Protein}
 
-abbrev pub based : ℤ → CdsFrom → Offset → Position
+abbrev based : ℤ → CdsFrom → Offset → Position
 based z from o = record { aa = span 0 0; number = z; unknown = false; «cds_from» = from; offset = o }
 
-abbrev pub genomic : ℤ → Position
+abbrev genomic : ℤ → Position
 genomic z = based z Start Absent
 
-abbrev pub hidden : Position
+abbrev hidden : Position
 hidden = record { aa = span 0 0; number = pos 0; unknown = true; «cds_from» = Start; offset = Absent }
 
 abbrev pub anyPosition : (k : Kind) → PositionR k → Position
@@ -57,6 +61,14 @@ anyLocation Prot (MuProt.Uncertain i) = anyMu Prot false (i .start) (i .end)
 anyLocation Rna (MuRna.Certain i) = anyMu Rna true (i .start) (i .end)
 anyLocation Rna (MuRna.Uncertain i) = anyMu Rna false (i .start) (i .end)
 
+abbrev pub anyBody : Body → AnyBody
+anyBody (Bo.Cds b) = Nucleotide Cds (anyLocation Cds (b .loc)) (b .edit)
+anyBody (Bo.Genome b) = Nucleotide Genome (anyLocation Genome (b .loc)) (b .edit)
+anyBody (Bo.Mt b) = Nucleotide Mt (anyLocation Mt (b .loc)) (b .edit)
+anyBody (Bo.Tx b) = Nucleotide Tx (anyLocation Tx (b .loc)) (b .edit)
+anyBody (Bo.Prot b) = Protein b
+anyBody (Bo.Rna b) = Nucleotide Rna (anyLocation Rna (b .loc)) (b .edit)
+
 any-position : (k : Kind) (p : PositionR k) → positionFor k (anyPosition k p) ≡ p
 any-position Cds p = refl
 any-position Genome G.Unknown = refl
@@ -67,16 +79,19 @@ any-position Tx p = refl
 any-position Prot p = refl
 any-position Rna p = refl
 
+any-ends : (k : Kind) (isCertain : Bool) (start end : PositionR k) → muFor k isCertain (positionFor k (anyPosition k start)) (positionFor k (anyPosition k end)) ≡ muFor k isCertain start end
+any-ends k isCertain start end = rw (any-position k start, any-position k end)
+
 pub any-location : (k : Kind) (l : MuIntervalR k) → locationFor k (anyLocation k l) ≡ l
-any-location Cds (MuCds.Certain i) = rw (any-position Cds (i .start), any-position Cds (i .end))
-any-location Cds (MuCds.Uncertain i) = rw (any-position Cds (i .start), any-position Cds (i .end))
-any-location Genome (MuGenome.Certain i) = rw (any-position Genome (i .start), any-position Genome (i .end))
-any-location Genome (MuGenome.Uncertain i) = rw (any-position Genome (i .start), any-position Genome (i .end))
-any-location Mt (MuMt.Certain i) = rw (any-position Mt (i .start), any-position Mt (i .end))
-any-location Mt (MuMt.Uncertain i) = rw (any-position Mt (i .start), any-position Mt (i .end))
-any-location Tx (MuTx.Certain i) = rw (any-position Tx (i .start), any-position Tx (i .end))
-any-location Tx (MuTx.Uncertain i) = rw (any-position Tx (i .start), any-position Tx (i .end))
-any-location Prot (MuProt.Certain i) = rw (any-position Prot (i .start), any-position Prot (i .end))
-any-location Prot (MuProt.Uncertain i) = rw (any-position Prot (i .start), any-position Prot (i .end))
-any-location Rna (MuRna.Certain i) = rw (any-position Rna (i .start), any-position Rna (i .end))
-any-location Rna (MuRna.Uncertain i) = rw (any-position Rna (i .start), any-position Rna (i .end))
+any-location Cds (MuCds.Certain i) = any-ends Cds true (i .start) (i .end)
+any-location Cds (MuCds.Uncertain i) = any-ends Cds false (i .start) (i .end)
+any-location Genome (MuGenome.Certain i) = any-ends Genome true (i .start) (i .end)
+any-location Genome (MuGenome.Uncertain i) = any-ends Genome false (i .start) (i .end)
+any-location Mt (MuMt.Certain i) = any-ends Mt true (i .start) (i .end)
+any-location Mt (MuMt.Uncertain i) = any-ends Mt false (i .start) (i .end)
+any-location Tx (MuTx.Certain i) = any-ends Tx true (i .start) (i .end)
+any-location Tx (MuTx.Uncertain i) = any-ends Tx false (i .start) (i .end)
+any-location Prot (MuProt.Certain i) = any-ends Prot true (i .start) (i .end)
+any-location Prot (MuProt.Uncertain i) = any-ends Prot false (i .start) (i .end)
+any-location Rna (MuRna.Certain i) = any-ends Rna true (i .start) (i .end)
+any-location Rna (MuRna.Uncertain i) = any-ends Rna false (i .start) (i .end)

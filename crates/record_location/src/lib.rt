@@ -1,6 +1,7 @@
-// The location of a record, of each kind, as a location of any kind.
+// The location of a record, of each kind, as a location of any kind; and so its body.
 use read_location::Location;
 use read_location::Position;
+use record::edits::MuNaEdit;
 use record::positions::CdsFrom;
 use record::positions::CdsPos;
 use record::positions::GenomePos;
@@ -16,56 +17,54 @@ use record::positions::ProtPos;
 use record::positions::RnaPos;
 use record::positions::TxPos;
 use record::spans::Span;
+use record::variant::Body;
+use record::variant::Kind;
+use record::variant::ProtLocEdit;
 ghost use mathlib.Core.Path.{_≡_};
 ghost use Rattle.record.specs.declared.variant.Kind.the-variants.{Cds, Genome, Mt, Tx, Prot, Rna};
-ghost use Rattle.record_location.specs.Locations.{based, genomic, hidden, anyPosition, anyLocation};
+ghost use Rattle.record_location.specs.Locations.{anyPosition, anyLocation, anyBody};
 
-// c, n, r: no residue, and not unknown.
-fn based_at(base: i32, from: CdsFrom, offset: Offset) -> Position
-    ensures { λ r. ⌜ r ≡ based base from offset ⌝ }
-{
-    Position {
-        aa: Span { start: 0, end: 0 },
-        number: base,
-        unknown: false,
-        cds_from: from,
-        offset,
-    }
+// A body of any nucleotide kind, or of p.
+pub enum AnyBody {
+    Nucleotide(Kind, Location, MuNaEdit),
+    Protein(ProtLocEdit),
 }
 
-// g, m: a number, or none.
-fn genomic_at(number: i32) -> Position
-    ensures { λ r. ⌜ r ≡ genomic number ⌝ }
-{
-    based_at(number, CdsFrom::Start, Offset::Absent)
-}
-
-fn hidden_at() -> Position
-    ensures { λ r. ⌜ r ≡ hidden ⌝ }
-{
-    Position {
-        aa: Span { start: 0, end: 0 },
-        number: 0,
-        unknown: true,
-        cds_from: CdsFrom::Start,
-        offset: Offset::Absent,
-    }
-}
+// `?` of g and m.
+const HIDDEN: Position = Position {
+    aa: Span { start: 0, end: 0 },
+    number: 0,
+    unknown: true,
+    cds_from: CdsFrom::Start,
+    offset: Offset::Absent,
+};
 
 fn cds(p: CdsPos) -> Position
     ensures { λ r. ⌜ r ≡ anyPosition Cds p ⌝ }
 {
-    let from = p.cds_from;
+    let cds_from = p.cds_from;
     let offset = p.offset;
-    based_at(p.base, from, offset)
+    Position {
+        aa: Span { start: 0, end: 0 },
+        number: p.base,
+        unknown: false,
+        cds_from,
+        offset,
+    }
 }
 
 fn genome(p: GenomePos) -> Position
     ensures { λ r. ⌜ r ≡ anyPosition Genome p ⌝ }
 {
     match p {
-        GenomePos::Unknown => hidden_at(),
-        GenomePos::At(n) => genomic_at(n),
+        GenomePos::Unknown => HIDDEN,
+        GenomePos::At(n) => Position {
+            aa: Span { start: 0, end: 0 },
+            number: n,
+            unknown: false,
+            cds_from: CdsFrom::Start,
+            offset: Offset::Absent,
+        },
     }
 }
 
@@ -73,8 +72,14 @@ fn mt(p: MtPos) -> Position
     ensures { λ r. ⌜ r ≡ anyPosition Mt p ⌝ }
 {
     match p {
-        MtPos::Unknown => hidden_at(),
-        MtPos::At(n) => genomic_at(n),
+        MtPos::Unknown => HIDDEN,
+        MtPos::At(n) => Position {
+            aa: Span { start: 0, end: 0 },
+            number: n,
+            unknown: false,
+            cds_from: CdsFrom::Start,
+            offset: Offset::Absent,
+        },
     }
 }
 
@@ -82,14 +87,26 @@ fn tx(p: TxPos) -> Position
     ensures { λ r. ⌜ r ≡ anyPosition Tx p ⌝ }
 {
     let offset = p.offset;
-    based_at(p.base, CdsFrom::Start, offset)
+    Position {
+        aa: Span { start: 0, end: 0 },
+        number: p.base,
+        unknown: false,
+        cds_from: CdsFrom::Start,
+        offset,
+    }
 }
 
 fn rna(p: RnaPos) -> Position
     ensures { λ r. ⌜ r ≡ anyPosition Rna p ⌝ }
 {
     let offset = p.offset;
-    based_at(p.base, CdsFrom::Start, offset)
+    Position {
+        aa: Span { start: 0, end: 0 },
+        number: p.base,
+        unknown: false,
+        cds_from: CdsFrom::Start,
+        offset,
+    }
 }
 
 fn prot(p: ProtPos) -> Position
@@ -105,7 +122,7 @@ fn prot(p: ProtPos) -> Position
     }
 }
 
-pub fn of_cds(l: MuCdsInterval) -> Location
+fn of_cds(l: MuCdsInterval) -> Location
     ensures { λ r. ⌜ r ≡ anyLocation Cds l ⌝ }
 {
     match l {
@@ -130,7 +147,7 @@ pub fn of_cds(l: MuCdsInterval) -> Location
     }
 }
 
-pub fn of_genome(l: MuGenomeInterval) -> Location
+fn of_genome(l: MuGenomeInterval) -> Location
     ensures { λ r. ⌜ r ≡ anyLocation Genome l ⌝ }
 {
     match l {
@@ -155,7 +172,7 @@ pub fn of_genome(l: MuGenomeInterval) -> Location
     }
 }
 
-pub fn of_mt(l: MuMtInterval) -> Location
+fn of_mt(l: MuMtInterval) -> Location
     ensures { λ r. ⌜ r ≡ anyLocation Mt l ⌝ }
 {
     match l {
@@ -180,7 +197,7 @@ pub fn of_mt(l: MuMtInterval) -> Location
     }
 }
 
-pub fn of_tx(l: MuTxInterval) -> Location
+fn of_tx(l: MuTxInterval) -> Location
     ensures { λ r. ⌜ r ≡ anyLocation Tx l ⌝ }
 {
     match l {
@@ -205,7 +222,7 @@ pub fn of_tx(l: MuTxInterval) -> Location
     }
 }
 
-pub fn of_rna(l: MuRnaInterval) -> Location
+fn of_rna(l: MuRnaInterval) -> Location
     ensures { λ r. ⌜ r ≡ anyLocation Rna l ⌝ }
 {
     match l {
@@ -251,6 +268,40 @@ pub fn of_prot(l: MuProtInterval) -> Location
                 start: prot(start),
                 end: prot(end),
             }
+        }
+    }
+}
+
+// The location of each kind as one of any kind.
+pub fn any_body(b: Body) -> AnyBody
+    ensures { λ r. ⌜ r ≡ anyBody b ⌝ }
+{
+    match b {
+        Body::Cds(x) => {
+            let loc = x.loc;
+            let edit = x.edit;
+            AnyBody::Nucleotide(Kind::Cds, of_cds(loc), edit)
+        }
+        Body::Genome(x) => {
+            let loc = x.loc;
+            let edit = x.edit;
+            AnyBody::Nucleotide(Kind::Genome, of_genome(loc), edit)
+        }
+        Body::Mt(x) => {
+            let loc = x.loc;
+            let edit = x.edit;
+            AnyBody::Nucleotide(Kind::Mt, of_mt(loc), edit)
+        }
+        Body::Tx(x) => {
+            let loc = x.loc;
+            let edit = x.edit;
+            AnyBody::Nucleotide(Kind::Tx, of_tx(loc), edit)
+        }
+        Body::Prot(x) => AnyBody::Protein(x),
+        Body::Rna(x) => {
+            let loc = x.loc;
+            let edit = x.edit;
+            AnyBody::Nucleotide(Kind::Rna, of_rna(loc), edit)
         }
     }
 }

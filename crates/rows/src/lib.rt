@@ -6,8 +6,9 @@ use emit_word::Word;
 use record::spans::Span;
 ghost use mathlib.Core.Path.{_≡_};
 ghost use Rattle.texts.specs.Words.{same};
-ghost use Rattle.emit_piece.specs.Texts.{noSpan};
 ghost use Rattle.rows.specs.Rows.{rowIf, lettersRow, wordRow, wordAlone, isUnsigned};
+
+pub const NO_SPAN: Span = Span { start: 0, end: 0 };
 
 // The row whose text is to be written, where there is one.
 pub enum RowPlan {
@@ -24,12 +25,6 @@ pub fn row_if(b: bool, row: Row) -> RowPlan
     RowPlan::NoText
 }
 
-pub fn no_span() -> Span
-    ensures { λ r. ⌜ r ≡ noSpan ⌝ }
-{
-    Span { start: 0, end: 0 }
-}
-
 // Letters, a word, letters.
 pub fn letters_row(first: Span, word: Word, second: Span) -> Row
     ensures { λ r. ⌜ r ≡ lettersRow first word second ⌝ }
@@ -41,20 +36,20 @@ pub fn letters_row(first: Span, word: Word, second: Span) -> Row
         sign: Mark::Nothing,
         amount: Amount::Absent,
         joint: Word::Empty,
-        last: no_span(),
+        last: NO_SPAN,
     }
 }
 
 pub fn word_row(word: Word, p: Span) -> Row
     ensures { λ r. ⌜ r ≡ wordRow word p ⌝ }
 {
-    letters_row(no_span(), word, p)
+    letters_row(NO_SPAN, word, p)
 }
 
 pub fn word_alone(word: Word) -> Row
     ensures { λ r. ⌜ r ≡ wordAlone word ⌝ }
 {
-    word_row(word, no_span())
+    word_row(word, NO_SPAN)
 }
 
 // Unsigned digits may be this number.

@@ -1,8 +1,7 @@
--- Tests made one after the other.
+-- Where a position may be unknown.
 use mathlib.Core.Path.{_≡_, refl}
-use mathlib.Core.Bool.{Bool, true, false, cond, _&&_}
+use mathlib.Core.Bool.{Bool, true, false, cond}
 use lib.IntN.{ℤ}
-use Rattle.texts.specs.Tests.{clash}
 use Rattle.record.specs.declared.variant.Kind.the-variants.{Genome, Mt}
 use Rattle.record.specs.declared.positions.GenomePos.the-variants.{Unknown, At}
 use Rattle.record.specs.declared.positions.MtPos.the-variants as Mts
@@ -22,14 +21,3 @@ module _ (v w : ℤ) where
   mt-same true false = refl
   mt-same false true = refl
   mt-same false false = refl
-
--- a third test behind two
-pub third-test : (a b c : Bool) → a && b ≡ true → c ≡ a && (b && c)
-third-test true true c e = refl
-third-test true false c e = absurd (clash e refl)
-third-test false b c e = absurd (clash e refl)
-
-pub no-third-test : (a b c : Bool) → a && b ≡ false → false ≡ a && (b && c)
-no-third-test true true c e = absurd (clash refl e)
-no-third-test true false c e = refl
-no-third-test false b c e = refl

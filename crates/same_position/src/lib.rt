@@ -16,6 +16,12 @@ pub fn same_number(a: i32, b: i32) -> bool
     a == b
 }
 
+fn same_numbers(p: Position, q: Position) -> bool
+    ensures { λ r. ⌜ r ≡ eqℤ (p .number) (q .number) ⌝ }
+{
+    same_number(p.number, q.number)
+}
+
 fn same_offset(a: Offset, b: Offset) -> bool
     ensures { λ r. ⌜ r ≡ eqOffset a b ⌝ }
 {
@@ -58,7 +64,7 @@ fn same_from(a: CdsFrom, b: CdsFrom) -> bool
 fn same_based(p: Position, q: Position) -> bool
     ensures { λ r. ⌜ r ≡ eqℤ (p .number) (q .number) && eqOffset (p .offset) (q .offset) ⌝ }
 {
-    if same_number(p.number, q.number) {
+    if same_numbers(p, q) {
         let a = p.offset;
         let b = q.offset;
         return same_offset(a, b);
@@ -88,7 +94,7 @@ fn same_genomic(p: Position, q: Position) -> bool
     if q.unknown {
         return false;
     }
-    same_number(p.number, q.number)
+    same_numbers(p, q)
 }
 
 // p
@@ -98,7 +104,7 @@ fn same_residual(source: &[u8], p: Position, q: Position) -> bool
     let a = p.aa;
     let b = q.aa;
     if rows::same_bytes(parts::part_of(source, a), parts::part_of(source, b)) {
-        return same_number(p.number, q.number);
+        return same_numbers(p, q);
     }
     false
 }

@@ -1,31 +1,16 @@
 // The answer to reading a text as a line: the record in the form that oracle/README.md gives, or `! `, number, a blank, place.
 use record::answers::ReadAnswer;
-use record::variant::Body;
-use record::variant::Header;
 use record::variant::HgvsVariant;
 use show_parts::bodies;
 ghost use Prim.Native.Nat.{_≤_};
 ghost use lib.ListN.{length};
-
-fn body(source: &[u8], out: &mut [u8], at: usize, h: Header, b: Body) -> usize
-    ensures { λ r. ⌜ r ≤ length (now (out .entry)) ⌝ }
-{
-    match b {
-        Body::Cds(x) => bodies::cds(source, out, at, h, x),
-        Body::Genome(x) => bodies::genome(source, out, at, h, x),
-        Body::Mt(x) => bodies::mt(source, out, at, h, x),
-        Body::Tx(x) => bodies::tx(source, out, at, h, x),
-        Body::Prot(x) => bodies::prot(source, out, at, h, x),
-        Body::Rna(x) => bodies::rna(source, out, at, h, x),
-    }
-}
 
 fn variant(source: &[u8], out: &mut [u8], at: usize, v: HgvsVariant) -> usize
     ensures { λ r. ⌜ r ≤ length (now (out .entry)) ⌝ }
 {
     let h = v.header;
     let b = v.body;
-    body(source, out, at, h, b)
+    bodies::body(source, out, at, h, b)
 }
 
 // A place in a text of 4,096 bytes at most.

@@ -1,4 +1,4 @@
-// Header and body of each kind.
+// Header and body.
 use crate::edits;
 use crate::locations;
 use crate::words;
@@ -7,23 +7,32 @@ use record::edits::MuNaEdit;
 use record::edits::MuProteinEdit;
 use record::positions::MuProtInterval;
 use record::spans::Span;
-use record::variant::CdsLocEdit;
-use record::variant::GenomeLocEdit;
+use record::variant::Body;
 use record::variant::Header;
-use record::variant::MtLocEdit;
+use record::variant::Kind;
 use record::variant::ProtLocEdit;
-use record::variant::RnaLocEdit;
-use record::variant::TxLocEdit;
+use record_location::AnyBody;
 ghost use Prim.Native.Nat.{_≤_};
 ghost use lib.ListN.{length};
 
+fn letter(kind: Kind) -> u8 {
+    match kind {
+        Kind::Cds => b'c',
+        Kind::Genome => b'g',
+        Kind::Mt => b'm',
+        Kind::Tx => b'n',
+        Kind::Prot => b'p',
+        Kind::Rna => b'r',
+    }
+}
+
 // Kind, accession and gene symbol, and a blank behind each.
-fn header(source: &[u8], out: &mut [u8], at: usize, kind: u8, h: Header) -> usize
+fn header(source: &[u8], out: &mut [u8], at: usize, kind: Kind, h: Header) -> usize
     ensures { λ r. ⌜ r ≤ length (now (out .entry)) ⌝ }
 {
     let accession = h.accession;
     let gene = h.gene_symbol;
-    let a = room::byte(out, at, kind);
+    let a = room::byte(out, at, letter(kind));
     let b = room::byte(out, a, b' ');
     let c = room::part(source, out, b, accession);
     let d = room::byte(out, c, b' ');
@@ -35,7 +44,7 @@ fn nucleotide(
     source: &[u8],
     out: &mut [u8],
     at: usize,
-    kind: u8,
+    kind: Kind,
     h: Header,
     l: Location,
     e: MuNaEdit,
@@ -48,50 +57,10 @@ fn nucleotide(
     edits::mu_na(source, out, c, e)
 }
 
-pub fn cds(source: &[u8], out: &mut [u8], at: usize, h: Header, x: CdsLocEdit) -> usize
-    ensures { λ r. ⌜ r ≤ length (now (out .entry)) ⌝ }
-{
-    let l = x.loc;
-    let e = x.edit;
-    nucleotide(source, out, at, b'c', h, record_location::of_cds(l), e)
-}
-
-pub fn genome(source: &[u8], out: &mut [u8], at: usize, h: Header, x: GenomeLocEdit) -> usize
-    ensures { λ r. ⌜ r ≤ length (now (out .entry)) ⌝ }
-{
-    let l = x.loc;
-    let e = x.edit;
-    nucleotide(source, out, at, b'g', h, record_location::of_genome(l), e)
-}
-
-pub fn mt(source: &[u8], out: &mut [u8], at: usize, h: Header, x: MtLocEdit) -> usize
-    ensures { λ r. ⌜ r ≤ length (now (out .entry)) ⌝ }
-{
-    let l = x.loc;
-    let e = x.edit;
-    nucleotide(source, out, at, b'm', h, record_location::of_mt(l), e)
-}
-
-pub fn tx(source: &[u8], out: &mut [u8], at: usize, h: Header, x: TxLocEdit) -> usize
-    ensures { λ r. ⌜ r ≤ length (now (out .entry)) ⌝ }
-{
-    let l = x.loc;
-    let e = x.edit;
-    nucleotide(source, out, at, b'n', h, record_location::of_tx(l), e)
-}
-
-pub fn rna(source: &[u8], out: &mut [u8], at: usize, h: Header, x: RnaLocEdit) -> usize
-    ensures { λ r. ⌜ r ≤ length (now (out .entry)) ⌝ }
-{
-    let l = x.loc;
-    let e = x.edit;
-    nucleotide(source, out, at, b'r', h, record_location::of_rna(l), e)
-}
-
 fn located(source: &[u8], out: &mut [u8], at: usize, l: MuProtInterval, e: MuProteinEdit) -> usize
     ensures { λ r. ⌜ r ≤ length (now (out .entry)) ⌝ }
 {
-    let a = locations::location(source, out, at, b'p', record_location::of_prot(l));
+    let a = locations::location(source, out, at, Kind::Prot, record_location::of_prot(l));
     let b = room::byte(out, a, b' ');
     edits::mu_protein(source, out, b, e)
 }
@@ -109,12 +78,21 @@ fn word_of(x: ProtLocEdit) -> Span {
     }
 }
 
-pub fn prot(source: &[u8], out: &mut [u8], at: usize, h: Header, x: ProtLocEdit) -> usize
+fn protein(source: &[u8], out: &mut [u8], at: usize, h: Header, x: ProtLocEdit) -> usize
     ensures { λ r. ⌜ r ≤ length (now (out .entry)) ⌝ }
 {
-    let a = header(source, out, at, b'p', h);
+    let a = header(source, out, at, Kind::Prot, h);
     match x {
         ProtLocEdit::Ordinary(l, e) => located(source, out, a, l, e),
         _ => words::word(out, a, word_of(x)),
+    }
+}
+
+pub fn body(source: &[u8], out: &mut [u8], at: usize, h: Header, b: Body) -> usize
+    ensures { λ r. ⌜ r ≤ length (now (out .entry)) ⌝ }
+{
+    match record_location::any_body(b) {
+        AnyBody::Nucleotide(kind, l, e) => nucleotide(source, out, at, kind, h, l, e),
+        AnyBody::Protein(x) => protein(source, out, at, h, x),
     }
 }

@@ -5,6 +5,7 @@ use read_location::Position;
 use record::positions::CdsFrom;
 use record::positions::Offset;
 use record::spans::Span;
+use record::variant::Kind;
 ghost use Prim.Native.Nat.{_≤_};
 ghost use lib.ListN.{length};
 
@@ -50,21 +51,21 @@ fn residue(source: &[u8], out: &mut [u8], at: usize, aa: Span, n: i32) -> usize
     room::integer(out, b, n)
 }
 
-fn position(source: &[u8], out: &mut [u8], at: usize, kind: u8, p: Position) -> usize
+fn position(source: &[u8], out: &mut [u8], at: usize, kind: Kind, p: Position) -> usize
     ensures { λ r. ⌜ r ≤ length (now (out .entry)) ⌝ }
 {
     let aa = p.aa;
     let from = p.cds_from;
     let offset = p.offset;
     match kind {
-        b'c' => anchored(out, at, from, p.number, offset),
-        b'g' | b'm' => genomic(out, at, p.unknown, p.number),
-        b'p' => residue(source, out, at, aa, p.number),
-        _ => based(out, at, p.number, offset),
+        Kind::Cds => anchored(out, at, from, p.number, offset),
+        Kind::Genome | Kind::Mt => genomic(out, at, p.unknown, p.number),
+        Kind::Prot => residue(source, out, at, aa, p.number),
+        Kind::Tx | Kind::Rna => based(out, at, p.number, offset),
     }
 }
 
-pub fn location(source: &[u8], out: &mut [u8], at: usize, kind: u8, l: Location) -> usize
+pub fn location(source: &[u8], out: &mut [u8], at: usize, kind: Kind, l: Location) -> usize
     ensures { λ r. ⌜ r ≤ length (now (out .entry)) ⌝ }
 {
     let from = l.start;

@@ -16,23 +16,23 @@ abbrev μ-loop : tie.MeasureT-loop
 loop-holds : tie.Need-loop-holds Inv-loop μ-loop
 loop-holds c = search needs
 
-sub-step : tie.Need-sub-step Inv-loop μ-loop
-sub-step c = search needs
+sub-turn : tie.Need-sub-turn Inv-loop μ-loop
+sub-turn c = search needs
 
-part-step-start : tie.Need-part-step-start Inv-loop μ-loop
-part-step-start c = search needs
+part-turn-start : tie.Need-part-turn-start Inv-loop μ-loop
+part-turn-start c = search needs
 
-part-step-end : tie.Need-part-step-end Inv-loop μ-loop
-part-step-end c = search needs
+part-turn-end : tie.Need-part-turn-end Inv-loop μ-loop
+part-turn-end c = search needs
 
-step-requires : tie.Need-step-requires Inv-loop μ-loop
-step-requires c κs = search needs
+turn-requires : tie.Need-turn-requires Inv-loop μ-loop
+turn-requires c κs = search needs
 
 slice-reshare-prefix-write-all : tie.Need-slice-reshare-prefix-write-all Inv-loop μ-loop
 slice-reshare-prefix-write-all c = search needs
 
 slice-aggregate-write-all : tie.Need-slice-aggregate-write-all Inv-loop μ-loop
-slice-aggregate-write-all c = let t = c .before .before .before .before .before .before in sym (length-take-le (t .step .result .at) _ (search needs))
+slice-aggregate-write-all c = let t = c .before .before .before .before .before .before in sym (length-take-le (t .turn .result .at) _ (search needs))
 
 write-all-requires : tie.Need-write-all-requires Inv-loop μ-loop
 write-all-requires c κs = search needs
@@ -52,7 +52,7 @@ add-i c = search needs
 loop-less : tie.Need-loop-less Inv-loop μ-loop
 loop-less c =
     let t = c .before .before .before .before .before .before .before .before .before in
-    let some : 1 ≤ t .step .result .used = t .step .ensures .1 (search needs) in
+    let some : 1 ≤ t .turn .result .used = t .turn .ensures .1 (search needs) in
     search needs
 
 loop-again : tie.Need-loop-again Inv-loop μ-loop
@@ -74,10 +74,10 @@ over-spec =
     Inv-loop
     μ-loop
     loop-holds
-    sub-step
-    part-step-start
-    part-step-end
-    step-requires
+    sub-turn
+    part-turn-start
+    part-turn-end
+    turn-requires
     slice-reshare-prefix-write-all
     slice-aggregate-write-all
     write-all-requires

@@ -1,4 +1,6 @@
 use mir.Facts.{toZ-ofZ}
+use mir.Syntax.{w32}
+use mir.Val.{SFits}
 use Rattle.plan_location.proofs.Laws.{end-planned}
 use borrow.Author.Needs.{needs}
 use Rattle.plan_location.proofs.plan_end.Statement.{statement}
@@ -15,9 +17,9 @@ offset-amount-requires c κs = search needs
 
 returns : tie.Need-returns
 returns c =
-    let a = c .before .before .before .args in
-    let f = c .before .before .before .fits .number in
-    end-planned (a .residue) (a .mark) (a .number) (a .offset) f (c .offset-amount .ensures .1) _ _ _ (rw (toZ-ofZ f) at (c .before .before .magnitude .ensures)) (c .before .offset-sign .ensures) (c .offset-amount .ensures .0)
+    let a = c .before .before .before .before .args in
+    let f : SFits w32 (a .p .number) = search needs in
+    end-planned (a .residue) (a .mark) (a .p .number) (a .offset) f (c .offset-amount .ensures .1) _ _ _ (rw (toZ-ofZ f) at (c .before .before .magnitude .ensures)) (c .before .offset-sign .ensures) (c .offset-amount .ensures .0)
 
 pub plan-end-spec : {M : Type 1} → statement M
 plan-end-spec =

@@ -12,18 +12,15 @@ plan-position-requires c κs = search needs
 same-position-requires : tie.Need-same-position-requires
 same-position-requires c κs = search needs
 
-no-end-requires : tie.Need-no-end-requires
-no-end-requires c κs = search needs
-
 plan-place-requires : tie.Need-plan-place-requires
 plan-place-requires c κs = search needs
 
 returns : tie.Need-returns
 unfolding planLocation
 returns c =
-    let a = c .before .before .before .before .before .before .before .before .args in
-    let e : samePosition (a .source .now) (a .kind) (a .l .start) (a .l .end) ≡ true = sym (c .before .before .before .same-position .ensures) ∙ c .before .before .if1 .taken in
-    rw e (rw (c .before .before .before .before .plan-position .ensures, c .before .no-end .ensures) at (c .plan-place .ensures))
+    let a = c .before .before .before .before .before .before .before .args in
+    let e : samePosition (a .source .now) (a .kind) (a .l .start) (a .l .end) ≡ true = sym (c .before .before .same-position .ensures) ∙ c .before .if1 .taken in
+    rw e (rw (c .before .before .before .plan-position .ensures) at (c .plan-place .ensures))
 
 plan-position-requires-2 : tie.Need-plan-position-requires-2
 plan-position-requires-2 c κs = search needs
@@ -44,7 +41,6 @@ plan-location-spec =
     (tie.spec
     plan-position-requires
     same-position-requires
-    no-end-requires
     plan-place-requires
     returns
     plan-position-requires-2

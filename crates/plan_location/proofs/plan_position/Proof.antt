@@ -1,6 +1,3 @@
-use mir.Facts.{toZ-ofZ}
-use mir.Syntax.{w32}
-use mir.Val.{SFits}
 use borrow.Author.Needs.{needs}
 use Rattle.plan_location.proofs.plan_position.Statement.{statement}
 use Rattle.plan_location.proofs.plan_position.Tie as tie
@@ -42,22 +39,22 @@ plan-based-requires-3 : tie.Need-plan-based-requires-3
 plan-based-requires-3 c κs = search needs
 
 returns : tie.Need-returns
-returns c = let f : SFits w32 (c .before .before .before .before .before .before .args .p .number) = search needs in rw (c .before .enum-told .given .1) (rw (toZ-ofZ f) at (c .plan-based .ensures))
+returns c = rw (c .before .enum-told .given .1) (c .plan-based .ensures)
 
 returns-2 : tie.Need-returns-2
-returns-2 c = let f : SFits w32 (c .before .before .before .before .before .before .args .p .number) = search needs in rw (c .before .enum-told2 .given .1) (rw (toZ-ofZ f) at (c .plan-genomic .ensures))
+returns-2 c = rw (c .before .enum-told2 .given .1) (c .plan-genomic .ensures)
 
 returns-3 : tie.Need-returns-3
-returns-3 c = let f : SFits w32 (c .before .before .before .before .before .before .args .p .number) = search needs in rw (c .before .enum-told3 .given .1) (rw (toZ-ofZ f) at (c .plan-genomic2 .ensures))
+returns-3 c = rw (c .before .enum-told3 .given .1) (c .plan-genomic2 .ensures)
 
 returns-4 : tie.Need-returns-4
-returns-4 c = let f : SFits w32 (c .before .before .before .before .before .before .args .p .number) = search needs in rw (c .before .enum-told4 .given .1) (rw (toZ-ofZ f) at (c .plan-based2 .ensures))
+returns-4 c = rw (c .before .enum-told4 .given .1) (c .plan-based2 .ensures)
 
 returns-5 : tie.Need-returns-5
-returns-5 c = let f : SFits w32 (c .before .before .before .before .before .before .args .p .number) = search needs in rw (c .before .enum-told5 .given .1) (rw (toZ-ofZ f) at (c .plan-residual .ensures))
+returns-5 c = rw (c .before .enum-told5 .given .1) (c .plan-residual .ensures)
 
 returns-6 : tie.Need-returns-6
-returns-6 c = let f : SFits w32 (c .before .before .before .before .before .before .args .p .number) = search needs in rw (c .before .enum-told6 .given .1) (rw (toZ-ofZ f) at (c .plan-based3 .ensures))
+returns-6 c = rw (c .before .enum-told6 .given .1) (c .plan-based3 .ensures)
 
 pub plan-position-spec : {M : Type 1} → statement M
 plan-position-spec =

@@ -1,4 +1,3 @@
-use mir.Facts.{toZ-ofZ}
 use mathlib.Core.Path.{_≡_, sym, ap, _∙_}
 use mathlib.Core.Bool.{true, false}
 use Rattle.residue.specs.Residues.{isResidue}
@@ -18,15 +17,14 @@ plan-unsigned-requires c κs = search needs
 
 returns : tie.Need-returns
 returns c =
-    let a = c .before .before .before .before .before .args in
-    let f = c .before .before .before .before .before .fits .number in
-    let t : isResidue (part (a .source .now) (a .aa)) ≡ true = sym (ap isResidue (c .before .before .before .part-of .ensures .bytes)) ∙ sym (c .before .before .is-residue .ensures) ∙ c .before .if1 .taken in
-    rw t (rw (toZ-ofZ f) at (c .plan-unsigned .ensures))
+    let a = c .before .before .before .before .before .before .args in
+    let t : isResidue (part (a .source .now) (a .p .aa)) ≡ true = sym (ap isResidue (c .before .before .before .part-of .ensures .bytes)) ∙ sym (c .before .before .is-residue .ensures) ∙ c .before .if1 .taken in
+    rw t (c .plan-unsigned .ensures)
 
 returns-2 : tie.Need-returns-2
 returns-2 c =
-    let a = c .before .before .before .before .args in
-    let t : isResidue (part (a .source .now) (a .aa)) ≡ false = sym (ap isResidue (c .before .before .part-of .ensures .bytes)) ∙ sym (c .before .is-residue .ensures) ∙ c .if1 .left in
+    let a = c .before .before .before .before .before .args in
+    let t : isResidue (part (a .source .now) (a .p .aa)) ≡ false = sym (ap isResidue (c .before .before .part-of .ensures .bytes)) ∙ sym (c .before .is-residue .ensures) ∙ c .if1 .left in
     rw t
 
 pub plan-residual-spec : {M : Type 1} → statement M

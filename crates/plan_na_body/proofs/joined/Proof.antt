@@ -20,11 +20,14 @@ enum-told-2 c = search needs
 returns-2 : tie.Need-returns-2
 returns-2 c = rw (c .before .before .before .place .given .1, c .enum-told2 .given .1)
 
-beside-requires : tie.Need-beside-requires
-beside-requires c κs = search needs
+bracket-requires : tie.Need-bracket-requires
+bracket-requires c κs = search needs
+
+bracket-requires-2 : tie.Need-bracket-requires-2
+bracket-requires-2 c κs = search needs
 
 returns-3 : tie.Need-returns-3
-returns-3 c = rw (c .before .before .before .before .before .place .given .1, c .before .before .row .given .1, c .beside .ensures)
+returns-3 c = rw (c .before .before .before .before .before .before .place .given .1, c .before .before .before .row .given .1, c .before .bracket .ensures, c .bracket2 .ensures)
 
 pub joined-spec : {M : Type 1} → statement M
 joined-spec =
@@ -36,5 +39,6 @@ joined-spec =
     enum-known-row
     enum-told-2
     returns-2
-    beside-requires
+    bracket-requires
+    bracket-requires-2
     returns-3)

@@ -7,17 +7,14 @@ use Rattle.plan_na_edit.proofs.plan_change.Tie as tie
 same-parts-requires : tie.Need-same-parts-requires
 same-parts-requires c κs = search needs
 
-no-span-requires : tie.Need-no-span-requires
-no-span-requires c κs = search needs
-
 letters-row-requires : tie.Need-letters-row-requires
 letters-row-requires c κs = search needs
 
 returns : tie.Need-returns
 unfolding planChange
 returns c =
-    let t = c .before .before in
-    rw (sym (t .before .same-parts .ensures) ∙ t .if1 .taken, c .letters-row .ensures, c .before .no-span .ensures)
+    let t = c .before in
+    rw (sym (t .before .same-parts .ensures) ∙ t .if1 .taken, c .letters-row .ensures)
 
 ones-parts-requires : tie.Need-ones-parts-requires
 ones-parts-requires c κs = search needs
@@ -56,7 +53,6 @@ plan-change-spec =
     tie.close
     (tie.spec
     same-parts-requires
-    no-span-requires
     letters-row-requires
     returns
     ones-parts-requires

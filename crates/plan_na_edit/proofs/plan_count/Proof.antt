@@ -10,9 +10,6 @@ is-unsigned-requires c κs = search needs
 magnitude-requires : tie.Need-magnitude-requires
 magnitude-requires c κs = search needs
 
-no-span-requires : tie.Need-no-span-requires
-no-span-requires c κs = search needs
-
 count-row-requires : tie.Need-count-row-requires
 count-row-requires c κs = search needs
 
@@ -22,10 +19,9 @@ row-if-requires c κs = search needs
 returns : tie.Need-returns
 returns c =
     let k = c .before in
-    let z = k .before in
-    let m = z .before in
+    let m = k .before in
     let u = m .before in
-    c .row-if .ensures ∙ rw (k .count-row .ensures, z .no-span .ensures, m .magnitude .ensures, u .is-unsigned .ensures, toZ-ofZ (u .before .fits .n))
+    c .row-if .ensures ∙ rw (k .count-row .ensures, m .magnitude .ensures, u .is-unsigned .ensures, toZ-ofZ (u .before .fits .n))
 
 pub plan-count-spec : {M : Type 1} → statement M
 plan-count-spec =
@@ -33,7 +29,6 @@ plan-count-spec =
     (tie.spec
     is-unsigned-requires
     magnitude-requires
-    no-span-requires
     count-row-requires
     row-if-requires
     returns)

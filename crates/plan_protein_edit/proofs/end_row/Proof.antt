@@ -14,15 +14,11 @@ amount-of-requires c κs = search needs
 joint-of-requires : tie.Need-joint-of-requires
 joint-of-requires c κs = search needs
 
-no-span-requires : tie.Need-no-span-requires
-no-span-requires c κs = search needs
-
 returns : tie.Need-returns
 returns c =
-    let j = c .before in
-    let a = j .before in
+    let a = c .before in
     let t = a .before in
-    rw (c .no-span .ensures, j .joint-of .ensures, a .amount-of .ensures, t .span-of2 .ensures, t .before .span-of .ensures)
+    rw (c .joint-of .ensures, a .amount-of .ensures, t .span-of2 .ensures, t .before .span-of .ensures)
 
 pub end-row-spec : {M : Type 1} → statement M
 end-row-spec =
@@ -32,5 +28,4 @@ end-row-spec =
     span-of-requires-2
     amount-of-requires
     joint-of-requires
-    no-span-requires
     returns)

@@ -8,8 +8,8 @@ use Rattle.record_inside.proofs.na_edit_inside.Tie as tie
 enum-known-edit : tie.Need-enum-known-edit
 enum-known-edit c = search needs
 
-both-inside-requires : tie.Need-both-inside-requires
-both-inside-requires c κs = search needs
+optionals-inside-requires : tie.Need-optionals-inside-requires
+optionals-inside-requires c κs = search needs
 
 enum-known-edit-2 : tie.Need-enum-known-edit-2
 enum-known-edit-2 c = search needs
@@ -48,7 +48,7 @@ enum-told-2 : tie.Need-enum-told-2
 enum-told-2 c = search needs
 
 returns : tie.Need-returns
-returns c = told (naEditInside (c .before .before .before .before .args .n)) (c .before .before .edit .given .1) (c .both-inside .ensures)
+returns c = told (naEditInside (c .before .before .before .before .args .n)) (c .before .before .edit .given .1) (c .optionals-inside .ensures)
 
 returns-2 : tie.Need-returns-2
 returns-2 c = told (naEditInside (c .before .before .before .before .args .n)) (c .before .before .edit2 .given .1) (c .inside .ensures)
@@ -76,7 +76,7 @@ na-edit-inside-spec =
     tie.close
     (tie.spec
     enum-known-edit
-    both-inside-requires
+    optionals-inside-requires
     enum-known-edit-2
     inside-requires
     enum-known-edit-3

@@ -1,6 +1,6 @@
-use Rattle.location.specs.Equal.{eqℤ, eqOffset, eqFrom}
-use mathlib.Core.Path.{sym, _∙_}
-use Rattle.same_position.proofs.Laws.{third-test, no-third-test}
+use mathlib.Core.Path.{_∙_}
+use mathlib.Core.Bool.{and-assoc}
+use Rattle.texts.specs.Tests.{both-fail, both-next}
 use borrow.Author.Needs.{needs}
 use Rattle.same_position.proofs.same_cds.Statement.{statement}
 use Rattle.same_position.proofs.same_cds.Tie as tie
@@ -12,14 +12,10 @@ same-from-requires : tie.Need-same-from-requires
 same-from-requires c κs = search needs
 
 returns : tie.Need-returns
-returns c =
-    let a = c .before .before .before .args in
-    c .same-from .ensures ∙ third-test (eqℤ (a .p .number) (a .q .number)) (eqOffset (a .p .offset) (a .q .offset)) (eqFrom (a .p .«cds_from») (a .q .«cds_from»)) (sym (c .before .before .same-based .ensures) ∙ c .before .if1 .taken)
+returns c = rw (← and-assoc) (both-next (c .before .before .same-based .ensures) (c .before .if1 .taken) (c .same-from .ensures))
 
 returns-2 : tie.Need-returns-2
-returns-2 c =
-    let a = c .before .before .args in
-    no-third-test (eqℤ (a .p .number) (a .q .number)) (eqOffset (a .p .offset) (a .q .offset)) (eqFrom (a .p .«cds_from») (a .q .«cds_from»)) (sym (c .before .same-based .ensures) ∙ c .if1 .left)
+returns-2 c = rw (← and-assoc) (both-fail _ (c .before .same-based .ensures) (c .if1 .left))
 
 pub same-cds-spec : {M : Type 1} → statement M
 same-cds-spec = tie.close (tie.spec same-based-requires same-from-requires returns returns-2)

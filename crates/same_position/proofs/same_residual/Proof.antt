@@ -1,10 +1,4 @@
-use mathlib.Core.Path.{_≡_, sym, _∙_}
-use mathlib.Core.Bool.{true, false}
-use mir.Facts.{toZ-ofZ}
-use mir.Syntax.{w32}
-use mir.Val.{SFits}
-use Rattle.texts.specs.Words.{same}
-use Rattle.grammar.specs.Spans.{part}
+use Rattle.texts.specs.Tests.{both-fail, both-next}
 use borrow.Author.Needs.{needs}
 use Rattle.same_position.proofs.same_residual.Statement.{statement}
 use Rattle.same_position.proofs.same_residual.Tie as tie
@@ -18,22 +12,18 @@ part-of-requires-2 c κs = search needs
 same-bytes-requires : tie.Need-same-bytes-requires
 same-bytes-requires c κs = search needs
 
-same-number-requires : tie.Need-same-number-requires
-same-number-requires c κs = search needs
+same-numbers-requires : tie.Need-same-numbers-requires
+same-numbers-requires c κs = search needs
 
 returns : tie.Need-returns
 returns c =
-    let a = c .before .before .before .before .before .before .before .before .before .before .args in
-    let f : SFits w32 (a .p .number) = search needs in
-    let g : SFits w32 (a .q .number) = search needs in
-    let e : same (part (a .source .now) (a .p .aa)) (part (a .source .now) (a .q .aa)) ≡ true = rw (c .before .before .before .before .before .before .part-of .ensures .bytes, c .before .before .before .before .before .part-of2 .ensures .bytes) at (sym (c .before .before .before .before .same-bytes .ensures) ∙ c .before .before .before .if1 .taken) in
-    rw e (rw (toZ-ofZ f, toZ-ofZ g) at (c .same-number .ensures))
+    let b = c .before .before in
+    both-next (rw (b .before .before .part-of .ensures .bytes, b .before .part-of2 .ensures .bytes) at (b .same-bytes .ensures)) (c .before .if1 .taken) (c .same-numbers .ensures)
 
 returns-2 : tie.Need-returns-2
 returns-2 c =
-    let a = c .before .before .before .before .before .before .before .args in
-    let e : same (part (a .source .now) (a .p .aa)) (part (a .source .now) (a .q .aa)) ≡ false = rw (c .before .before .before .part-of .ensures .bytes, c .before .before .part-of2 .ensures .bytes) at (sym (c .before .same-bytes .ensures) ∙ c .if1 .left) in
-    rw e
+    let b = c .before in
+    both-fail _ (rw (b .before .before .part-of .ensures .bytes, b .before .part-of2 .ensures .bytes) at (b .same-bytes .ensures)) (c .if1 .left)
 
 pub same-residual-spec : {M : Type 1} → statement M
 same-residual-spec =
@@ -42,6 +32,6 @@ same-residual-spec =
     part-of-requires
     part-of-requires-2
     same-bytes-requires
-    same-number-requires
+    same-numbers-requires
     returns
     returns-2)

@@ -1,6 +1,6 @@
 use borrow.Author.Needs.{needs}
-use Rattle.plan_text.proofs.any_body.Statement.{statement}
-use Rattle.plan_text.proofs.any_body.Tie as tie
+use Rattle.record_location.proofs.any_body.Statement.{statement}
+use Rattle.record_location.proofs.any_body.Tie as tie
 
 enum-known-b : tie.Need-enum-known-b
 enum-known-b c = search needs
