@@ -1,4 +1,3 @@
-use mathlib.Core.Path.{_∙_}
 use mathlib.Core.Bool.{and-assoc}
 use Rattle.texts.specs.Tests.{both-fail, both-next}
 use borrow.Author.Needs.{needs}
