@@ -1,4 +1,3 @@
--- `canonical_line::answer` meets its contract.
 use mathlib.Core.Bool.{cond}
 use native.Mathlib.Omega.{arith}
 use Rattle.lent.specs.Put.{then}

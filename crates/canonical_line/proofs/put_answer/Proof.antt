@@ -1,4 +1,3 @@
--- `canonical_line::put_answer` meets its contract.
 use native.Mathlib.Omega.{arith}
 use Rattle.grammar.specs.Texts.{allLetters}
 use Rattle.promise.specs.Outcome.{Outcome.given, Outcome.refused}

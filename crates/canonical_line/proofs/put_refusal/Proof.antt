@@ -1,4 +1,3 @@
--- `canonical_line::put_refusal` meets its contract.
 use native.Mathlib.Omega.{arith}
 use Rattle.lent.specs.Put.{then}
 use Rattle.line_promise.specs.Answer.{refusal}

@@ -1,4 +1,3 @@
--- `canonical_line::put_text` meets its contract.
 use mathlib.Core.Path.{_≡_, _∙_}
 use native.Mathlib.Omega.{arith}
 use lib.ListN.{length}

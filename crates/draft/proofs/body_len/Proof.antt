@@ -1,4 +1,3 @@
--- `draft::body_len` meets its contract.
 use native.Mathlib.Omega.{arith}
 use Rattle.draft.specs.Laws.{body-length}
 use borrow.Author.Needs.{needs}

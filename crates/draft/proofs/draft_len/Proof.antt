@@ -1,4 +1,3 @@
--- `draft::draft_len` meets its contract.
 use native.Mathlib.Omega.{arith}
 use Rattle.draft.specs.Laws.{draft-length}
 use borrow.Author.Needs.{needs}

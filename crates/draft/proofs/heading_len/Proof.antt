@@ -1,4 +1,3 @@
--- `draft::heading_len` meets its contract.
 use native.Mathlib.Omega.{arith}
 use Rattle.grammar.specs.Header.{kind-length}
 use Rattle.draft.specs.Laws.{heading-length}

@@ -1,4 +1,3 @@
--- `draft::put_body` meets its contract.
 use native.Mathlib.Omega.{arith}
 use Rattle.draft.specs.Texts.{bodyText}
 use Rattle.draft.specs.Laws.{body-length}

@@ -1,4 +1,3 @@
--- `draft::put_draft` meets its contract.
 use native.Mathlib.Omega.{arith}
 use Rattle.draft.specs.Texts.{draftText}
 use Rattle.draft.specs.Laws.{draft-length}

@@ -1,4 +1,3 @@
--- `draft::put_heading` meets its contract.
 use native.Mathlib.Omega.{arith}
 use Rattle.draft.specs.Texts.{headingText}
 use Rattle.draft.specs.Laws.{heading-length}

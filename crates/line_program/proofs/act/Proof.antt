@@ -1,4 +1,3 @@
--- `line_program::act` meets its contract.
 use mathlib.Core.Path.{refl, sym}
 use lib.Seq.{length-take-le}
 use Rattle.line_runs.specs.After.{Ready, Acted}

@@ -1,4 +1,3 @@
--- `line_program::all` meets its contract.
 use mathlib.Core.Path.{_≡_, refl}
 use lib.ListN.{length}
 use Rattle.line_program.proofs.Laws.{Standing, standing-start, standing-more, ran-to-stop, ran-on}

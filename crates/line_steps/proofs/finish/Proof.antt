@@ -1,4 +1,3 @@
--- `line_steps::finish` meets its contract.
 use mathlib.Core.Path.{sym, _∙_}
 use Rattle.line_steps.proofs.Laws.{last-some, last-none}
 use borrow.Author.Needs.{needs}

@@ -1,4 +1,3 @@
--- `line_steps::put_line` meets its contract.
 use mathlib.Core.Path.{sym}
 use lib.Seq.{length-take-le}
 use borrow.Author.Needs.{needs}

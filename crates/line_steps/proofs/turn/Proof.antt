@@ -1,4 +1,3 @@
--- `line_steps::turn` meets its contract.
 use Rattle.lines.specs.Steps.{went-open, went-ended, taken-within}
 use Rattle.line_promise.specs.Answer.{lineAnswer}
 use borrow.Author.Needs.{needs}

@@ -1,4 +1,3 @@
--- `line_turns::after_read` meets its contract.
 use mir.Facts.{toZ-ofZ}
 use Rattle.line_turns.proofs.Laws.{read-failed, read-ended, read-some}
 use borrow.Author.Needs.{needs}

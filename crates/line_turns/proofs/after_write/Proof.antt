@@ -1,4 +1,3 @@
--- `line_turns::after_write` meets its contract.
 use mathlib.Core.Path.{sym}
 use lib.Seq.{length-take-le}
 use Rattle.line_runs.specs.After.{AfterWrite.failed, AfterWrite.allWritten}

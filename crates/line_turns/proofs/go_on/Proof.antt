@@ -1,4 +1,3 @@
--- `line_turns::go_on` meets its contract.
 use Rattle.texts.specs.Slices.{tail-part}
 use Rattle.line_runs.specs.After.{WentOn.usedUp, WentOn.stepped}
 use borrow.Author.Needs.{needs}

@@ -1,4 +1,3 @@
--- `read_na_body::loc_edit` meets its contract.
 use Rattle.read_na_body.proofs.Laws.{made-cds, made-genome, made-mt, made-tx, made-rna}
 use mathlib.Core.Path.{sym, ap}
 use Rattle.read_na_body.specs.Answer.{locEdit}

@@ -1,4 +1,3 @@
--- `read_protein_body::after_location` meets its contract.
 use mathlib.Core.Path.{sym, _∙_}
 use native.Mathlib.Omega.{arith}
 use Rattle.read_protein_edit.specs.Told.{MuTold, mu-told}

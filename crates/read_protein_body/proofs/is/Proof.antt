@@ -1,4 +1,3 @@
--- `read_protein_body::is` meets its contract.
 use Rattle.read_protein_body.proofs.Laws.{is-same, is-other}
 use borrow.Author.Needs.{needs}
 use Rattle.read_protein_body.proofs.is.Statement.{statement}

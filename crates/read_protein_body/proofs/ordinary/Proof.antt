@@ -1,4 +1,3 @@
--- `read_protein_body::ordinary` meets its contract.
 use mathlib.Core.Path.{_≡_, sym, _∙_}
 use Rattle.texts.specs.Ascii.{ascii}
 use Rattle.texts.specs.Words.{starts, starts-length}

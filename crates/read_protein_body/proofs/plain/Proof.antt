@@ -1,4 +1,3 @@
--- `read_protein_body::plain` meets its contract.
 use mathlib.Core.Path.{sym, _∙_}
 use native.Mathlib.Omega.{arith}
 use Rattle.record.specs.declared.variant.Kind.the-variants.{Prot}

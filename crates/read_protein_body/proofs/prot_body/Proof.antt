@@ -1,4 +1,3 @@
--- `read_protein_body::prot_body` meets its contract.
 use mathlib.Core.Path.{_≡_, sym, _∙_}
 use Rattle.read_protein_body.proofs.Laws.{exact-told, exact-none, OrdinaryTold, ordinary-told, exact-found, body-none, body-open, body-found}
 use mathlib.Core.Option.{none}

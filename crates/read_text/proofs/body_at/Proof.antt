@@ -1,4 +1,3 @@
--- `read_text::body_at` meets its contract.
 use mathlib.Core.Path.{sym, _∙_}
 use Rattle.read_text.proofs.Laws.{nucleotide-says, protein-says}
 use borrow.Author.Needs.{needs}

@@ -1,4 +1,3 @@
--- `read_text::hgvs_variant` meets its contract.
 use mathlib.Core.Path.{_≡_, sym, _∙_}
 use native.Mathlib.Omega.{arith}
 use mathlib.Core.Option.{some}
