@@ -39,7 +39,7 @@ mayBeZero Plain = true
 mayBeZero Minus = false
 mayBeZero Negated = true
 
--- whether n digits are plainly spelled, by whether the first is a zero: only where it is the one digit 0, with no minus before it
+-- whether n digits are plainly spelled: the first is a zero only where it is the one digit 0, with no minus before it
 abbrev pub plainly : ℕ → Sign → Bool → Bool
 plainly n sign zero = cond zero (eqb n 1 && mayBeZero sign) true
 
