@@ -6,7 +6,7 @@ use mathlib.Core.Bool.{false}
 use lib.ListN.{length}
 use denote.Ref.{RefT, ptr, now}
 use Rattle.texts.specs.Unique.{no-second-answer}
-use Rattle.record.specs.declared.variant.HgvsVariant.{HgvsVariant}
+use Rattle.record.specs.declared.HgvsVariant.{HgvsVariant}
 use Rattle.grammar.specs.Header.{Accession, printAccession, Header.header, printHeader}
 use Rattle.grammar.specs.Texts.{Text, Text.text, print}
 use Rattle.grammar.specs.Spans.{inside, part}

@@ -1,5 +1,5 @@
 // The accession of a record, in the caller's source.
-use record::variant::HgvsVariant;
+use record::HgvsVariant;
 ghost use Rattle.accession.specs.Accessor.{IsAccession};
 
 // That part of the source, and no copy; the empty part at the source's start where its span lies outside or starts after its end.

@@ -2,7 +2,7 @@
 use Prim.Native.Nat.{ℕ}
 use mathlib.Core.List.{List, _++_}
 use mathlib.Core.Bool.{Bool}
-use Rattle.record.specs.declared.variant.Kind.{Kind}
+use Rattle.record.specs.declared.Kind.{Kind}
 use Rattle.grammar.specs.Shapes.{Mu, printMu, WfMu}
 use Rattle.grammar.specs.NucleotideEdits.{NaEdit, printNaEdit, WfNaEdit}
 use Rattle.lang.specs.Lang.{Lang}

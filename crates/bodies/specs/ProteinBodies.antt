@@ -7,7 +7,7 @@ use lib.Dec.{eqb}
 use lib.ListN.{length, drop}
 use Rattle.texts.specs.Ascii.{ascii}
 use Rattle.texts.specs.Words.{starts, same}
-use Rattle.record.specs.declared.variant.Kind.the-variants.{Prot}
+use Rattle.record.specs.declared.Kind.the-variants.{Prot}
 use Rattle.grammar.specs.Shapes.{Mu, Mu.certain, Mu.uncertain, Both.both}
 use Rattle.grammar.specs.ProteinEdits.{ProteinEdit, printProteinEdit}
 use Rattle.grammar.specs.Bodies.{Ends, printEnds, ProteinBody, ProteinBody.met1, ProteinBody.bracketedMet1, ProteinBody.noProteinUncertain, ProteinBody.noProtein, ProteinBody.noChangeUncertain, ProteinBody.noChange, ProteinBody.unknown, ProteinBody.change, ProteinBody.bracketed, printProteinBody}

@@ -15,7 +15,7 @@ use Rattle.texts.specs.Runs.{every}
 use Rattle.texts.specs.Words.{starts, starts-split, same, same-true, same-refl}
 use Rattle.alphabet.specs.Letters.{among, digit, residue}
 use Rattle.alphabet.specs.Apart.{among-none}
-use Rattle.record.specs.declared.variant.Kind.the-variants.{Prot}
+use Rattle.record.specs.declared.Kind.the-variants.{Prot}
 use Rattle.grammar.specs.Shapes.{Mu, Mu.certain, Mu.uncertain, Both.both, printMu, WfMu}
 use Rattle.grammar.specs.ProteinEdits.{ProteinEdit, printProteinEdit, WfProteinEdit}
 use Rattle.grammar.specs.Bodies.{Ends, printEnds, WfEnds, WfLocation, ProteinBody, ProteinBody.met1, ProteinBody.bracketedMet1, ProteinBody.noProteinUncertain, ProteinBody.noProtein, ProteinBody.noChangeUncertain, ProteinBody.noChange, ProteinBody.unknown, ProteinBody.change, ProteinBody.bracketed, printProteinBody, WfProteinBody, NotMet1}

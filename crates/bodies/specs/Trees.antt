@@ -5,7 +5,7 @@ use mathlib.Core.List.{List}
 use mathlib.Core.Option.{none, some}
 use mathlib.Core.Bool.{Bool}
 use Rattle.texts.specs.Tests.{none-some}
-use Rattle.record.specs.declared.variant.Kind.{Kind}
+use Rattle.record.specs.declared.Kind.{Kind}
 use Rattle.grammar.specs.Texts.{Text}
 use Rattle.promise.specs.Reading.{TreeOf}
 use Rattle.na_edits.specs.Alphabet.{Alphabet}

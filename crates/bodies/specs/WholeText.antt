@@ -7,7 +7,7 @@ use mathlib.Core.Bool.{Bool}
 use lib.ListN.{length, drop}
 use lib.Seq.{drop-append-seam}
 use Rattle.texts.specs.Tests.{none-some}
-use Rattle.record.specs.declared.variant.Kind.{Kind}
+use Rattle.record.specs.declared.Kind.{Kind}
 use Rattle.grammar.specs.Header.{Header, printHeader, printKind}
 use Rattle.grammar.specs.Shapes.{Both, Both.both}
 use Rattle.grammar.specs.Bodies.{printBody}

@@ -1,10 +1,10 @@
 // The width of a record's location: document 01, "Width".
 use read_location::Location;
 use read_location::Position;
-use record::positions::CdsFrom;
-use record::positions::Offset;
-use record::variant::Body;
-use record::variant::ProtLocEdit;
+use record::Body;
+use record::CdsFrom;
+use record::Offset;
+use record::ProtLocEdit;
 use record_location::AnyBody;
 ghost use mathlib.Core.Path.{_≡_};
 ghost use Rattle.promise.specs.Width.{widthBetween, between, anchored, protWidth, bodyWidth};

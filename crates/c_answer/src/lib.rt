@@ -1,6 +1,6 @@
 // For C: what an operation answers, in numbers.
-use record::answers::WidthAnswer;
-use record::answers::WriteAnswer;
+use record::WidthAnswer;
+use record::WriteAnswer;
 ghost use mathlib.Core.Path.{_≡_};
 ghost use Rattle.promise.specs.Outcome.{writeOutcome, widthOutcome};
 ghost use Rattle.c_answer.specs.Numbered.{bareAnswer, numbered};

@@ -1,7 +1,7 @@
 -- What an operation on a text answers in numbers: what reading the text refuses; else what writing or measuring its record answers.
 use Prim.Native.Nat.{ℕ}
 use mathlib.Core.List.{List}
-use Rattle.record.specs.declared.variant.HgvsVariant.{HgvsVariant}
+use Rattle.record.specs.declared.HgvsVariant.{HgvsVariant}
 use Rattle.grammar.specs.Texts.{allLetters}
 use Rattle.grammar.specs.Values.{Value}
 use Rattle.promise.specs.Outcome.{Outcome, Outcome.given, Outcome.refused}

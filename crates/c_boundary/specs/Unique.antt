@@ -4,7 +4,7 @@ use mathlib.Core.Path.{_≡_, refl, ap}
 use mathlib.Core.List.{List}
 use mathlib.Core.Bool.{Bool, true, false}
 use Rattle.texts.specs.Tests.{clash}
-use Rattle.record.specs.declared.variant.HgvsVariant.{HgvsVariant}
+use Rattle.record.specs.declared.HgvsVariant.{HgvsVariant}
 use Rattle.grammar.specs.Texts.{allLetters}
 use Rattle.grammar.specs.Values.{Value}
 use Rattle.promise.specs.Outcome.{Outcome, Outcome.given, Outcome.refused}

@@ -1,6 +1,6 @@
 // For C: operations on a text, in numbers and byte slices. c/saltwhistle.h says the same to a C programmer.
 use c_answer::Answer;
-use record::answers::ReadAnswer;
+use record::ReadAnswer;
 ghost use Rattle.grammar.specs.Texts.{allLetters};
 ghost use Rattle.promise.specs.Writing.{ToWrite};
 ghost use Rattle.promise.specs.NoRef.{NoRefText};

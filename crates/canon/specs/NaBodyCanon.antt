@@ -4,7 +4,7 @@ use mathlib.Core.Path.{_≡_}
 use mathlib.Core.Option.{none}
 use mathlib.Core.Bool.{Bool}
 use lib.ListN.{length}
-use Rattle.record.specs.declared.variant.Kind.{Kind}
+use Rattle.record.specs.declared.Kind.{Kind}
 use Rattle.grammar.specs.Shapes.{Both.both}
 use Rattle.grammar.specs.Bodies.{printLocation, NaBody}
 use Rattle.grammar.specs.Numbers.{misfit, endsNumbers, muNumbers, naEditNumbers, naBodyNumbers}

@@ -10,8 +10,8 @@ use Rattle.texts.specs.Tests.{clash, and-true, cond-some}
 use Rattle.texts.specs.Runs.{every}
 use Rattle.texts.specs.Words.{same, oneEach, one-each}
 use Rattle.number.specs.Written.{unsignedDigits}
-use Rattle.record.specs.declared.variant.Kind.{Kind}
-use Rattle.record.specs.declared.variant.Kind.the-variants.{Cds, Genome, Mt, Tx, Prot, Rna}
+use Rattle.record.specs.declared.Kind.{Kind}
+use Rattle.record.specs.declared.Kind.the-variants.{Cds, Genome, Mt, Tx, Prot, Rna}
 use Rattle.grammar.specs.Header.{Header, printHeader, printKind}
 use Rattle.grammar.specs.Shapes.{Mu, Mu.certain, Mu.uncertain, Both.both, printMu}
 use Rattle.grammar.specs.NucleotideEdits.{NaEdit, NaEdit.equal, NaEdit.swap, NaEdit.delIns, NaEdit.delNumIns, NaEdit.del, NaEdit.ins, NaEdit.dup, NaEdit.inv, printNaEdit}

@@ -18,12 +18,12 @@ use Rattle.residue.specs.Reading.{residueLen, threesLen, residuesLen}
 use Rattle.residue.specs.Residues.{oneOf, isThree, isOne, isResidue, threes, isResidues}
 use Rattle.number.specs.Digits.{valFrom, decUpTo}
 use Rattle.number.specs.Reading.{saturated}
-use Rattle.record.specs.declared.variant.Kind.{Kind}
-use Rattle.record.specs.declared.variant.Kind.the-variants.{Cds, Genome, Mt, Tx, Prot, Rna}
-use Rattle.record.specs.declared.variant.HgvsVariant.{HgvsVariant}
+use Rattle.record.specs.declared.Kind.{Kind}
+use Rattle.record.specs.declared.Kind.the-variants.{Cds, Genome, Mt, Tx, Prot, Rna}
+use Rattle.record.specs.declared.HgvsVariant.{HgvsVariant}
 use Rattle.grammar.specs.Texts.{Text, print, allLetters}
-use Rattle.record.specs.declared.positions.GenomePos.the-variants.{At}
-use Rattle.record.specs.declared.edits.UncertainLengthChange.the-variants.{Known}
+use Rattle.record.specs.declared.GenomePos.the-variants.{At}
+use Rattle.record.specs.declared.UncertainLengthChange.the-variants.{Known}
 use Rattle.grammar.specs.Shapes.{Mu.certain, Both.both}
 use Rattle.grammar.specs.Values.{BodyV, ProtPosV.protPosV, NaEditV.refAlt, ProteinEditV.extV, HeaderV.headerV, ProteinBodyV, ProteinBodyV.ordinary, ProteinBodyV.noChangeV, ProteinBodyV.noChangeUncertainV, ProteinBodyV.noProteinV, ProteinBodyV.noProteinUncertainV, ProteinBodyV.unknownV, ProteinBodyV.initiationUncertain, Value, Value.value}
 use Rattle.grammar.specs.Meaning.{meaning}

@@ -20,7 +20,7 @@ use Rattle.number.specs.Reading.{saturated}
 use Rattle.number.specs.Signs.{saturated-fit}
 use Rattle.residue.specs.Rows.{rows}
 use Rattle.residue.specs.Residues.{oneOf, isThree, isResidue}
-use Rattle.record.specs.declared.variant.Kind.the-variants.{Prot}
+use Rattle.record.specs.declared.Kind.the-variants.{Prot}
 use Rattle.grammar.specs.Shapes.{Interval.one, Interval.two, Mu, Mu.certain, Mu.uncertain, Both.both}
 use Rattle.grammar.specs.Positions.{Residual.residual, Digits}
 use Rattle.grammar.specs.ProteinEdits.{ProteinEdit, ProteinEdit.subst, ProteinEdit.substUnknown, ProteinEdit.equal, ProteinEdit.del, ProteinEdit.dup, ProteinEdit.ins, ProteinEdit.delIns, ProteinEdit.fs, ProteinEdit.ext, Stop.stop, ExtEnd.nothing, ExtEnd.later, ExtEnd.earlier, printProteinEdit, WfProteinEdit}

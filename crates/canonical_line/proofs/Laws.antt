@@ -9,7 +9,7 @@ use lib.Seq.{drop-drop}
 use Rattle.texts.specs.Slices.{tail-part}
 use Rattle.lent.specs.Put.{put, put-front}
 use Rattle.number.specs.Digits.{dec}
-use Rattle.record.specs.declared.variant.HgvsVariant.{HgvsVariant}
+use Rattle.record.specs.declared.HgvsVariant.{HgvsVariant}
 use Rattle.grammar.specs.Texts.{allLetters}
 use Rattle.promise.specs.Outcome.{Outcome, Outcome.given, Outcome.refused, limit, givenLength}
 use Rattle.promise.specs.Reading.{Reads}

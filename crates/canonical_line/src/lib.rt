@@ -1,7 +1,7 @@
 // The answer to a line: its shortest text, or `! `, number, a blank, place; then LF.
-use record::answers::ReadAnswer;
-use record::answers::WriteAnswer;
-use record::variant::HgvsVariant;
+use record::HgvsVariant;
+use record::ReadAnswer;
+use record::WriteAnswer;
 ghost use mathlib.Core.Path.{_≡_};
 ghost use mathlib.Core.Bool.{cond};
 ghost use mathlib.Core.List.{_++_, _∷_, []};

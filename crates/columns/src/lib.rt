@@ -1,7 +1,7 @@
 // What stands behind a record, a TAB before each: its shortest text, its text without the reference, its width; `! ` and the refusal's number where there is none.
-use record::answers::WidthAnswer;
-use record::answers::WriteAnswer;
-use record::variant::HgvsVariant;
+use record::HgvsVariant;
+use record::WidthAnswer;
+use record::WriteAnswer;
 ghost use Prim.Native.Nat.{_+_, _≤_};
 ghost use lib.ListN.{length};
 ghost use Rattle.promise.specs.Outcome.{writeOutcome, givenLength};

@@ -6,7 +6,7 @@ use native.Mathlib.Omega.{arith}
 use lib.ListN.{length, length-append}
 use borrow.Author.Tests.{le-leb, lt-leb}
 use Rattle.lent.specs.Put.{put, put-front}
-use Rattle.record.specs.declared.answers.WriteAnswer.the-variants.{Written, TooLong, NoRoom}
+use Rattle.record.specs.declared.WriteAnswer.the-variants.{Written, TooLong, NoRoom}
 use Rattle.grammar.specs.Spans.{part}
 use Rattle.grammar.specs.Header.{printKind}
 use Rattle.emit_piece.specs.Texts.{markText}

@@ -6,8 +6,8 @@ use lib.Dec.{leb}
 use lib.ListN.{length, drop}
 use Rattle.grammar.specs.Spans.{part}
 use Rattle.grammar.specs.Header.{printKind}
-use Rattle.record.specs.declared.answers.WriteAnswer.{WriteAnswer}
-use Rattle.record.specs.declared.answers.WriteAnswer.the-variants.{Written, TooLong, NoRoom}
+use Rattle.record.specs.declared.WriteAnswer.{WriteAnswer}
+use Rattle.record.specs.declared.WriteAnswer.the-variants.{Written, TooLong, NoRoom}
 use Rattle.emit_piece.specs.Texts.{markText}
 use Rattle.emit_row.specs.Texts.{rowText}
 use Rattle.emit_place.specs.Texts.{placeText}

@@ -2,9 +2,9 @@
 use emit_piece::Mark;
 use emit_place::Place;
 use emit_row::Row;
-use record::answers::WriteAnswer;
-use record::spans::Span;
-use record::variant::Kind;
+use record::Kind;
+use record::Span;
+use record::WriteAnswer;
 ghost use mathlib.Core.Path.{_≡_};
 ghost use Prim.Native.Nat.{_+_, _*_, _≤_};
 ghost use lib.ListN.{length};

@@ -1,5 +1,5 @@
 // The kind of a text that is to be written: its bytes in lent room.
-use record::variant::Kind;
+use record::Kind;
 ghost use mathlib.Core.Path.{_≡_};
 ghost use Prim.Native.Nat.{_+_, _≤_};
 ghost use lib.ListN.{length};

@@ -1,7 +1,7 @@
 -- The text of a mark and of an amount, and a span with nothing to write.
 use Prim.Native.Nat.{ℕ}
 use mathlib.Core.List.{List, [], _∷_}
-use Rattle.record.specs.declared.spans.Span.{Span}
+use Rattle.record.specs.declared.Span.{Span}
 use Rattle.number.specs.Digits.{dec}
 use Rattle.emit_piece.specs.declared.Mark.{Mark}
 use Rattle.emit_piece.specs.declared.Mark.the-variants.{Nothing, Byte}

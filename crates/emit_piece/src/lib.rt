@@ -1,5 +1,5 @@
 // The pieces of a text that is to be written: a part of the source, one byte, a number; how long, and their bytes in lent room.
-use record::spans::Span;
+use record::Span;
 ghost use mathlib.Core.Path.{_≡_};
 ghost use Prim.Native.Nat.{_+_, _≤_};
 ghost use lib.ListN.{length};

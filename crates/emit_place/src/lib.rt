@@ -1,7 +1,7 @@
 // A location that is to be written: how long it is, and its bytes in lent room.
 use emit_piece::Amount;
 use emit_piece::Mark;
-use record::spans::Span;
+use record::Span;
 ghost use mathlib.Core.Path.{_≡_};
 ghost use Prim.Native.Nat.{_+_, _*_, _≤_};
 ghost use lib.ListN.{length};

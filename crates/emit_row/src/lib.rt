@@ -2,7 +2,7 @@
 use emit_piece::Amount;
 use emit_piece::Mark;
 use emit_word::Word;
-use record::spans::Span;
+use record::Span;
 ghost use mathlib.Core.Path.{_≡_};
 ghost use Prim.Native.Nat.{_+_, _*_, _≤_};
 ghost use lib.ListN.{length};

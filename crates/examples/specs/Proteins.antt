@@ -3,7 +3,7 @@ use Prim.Native.Char.{code}
 use mathlib.Core.List.{List, [], _∷_}
 use mathlib.Core.Option.{none, some}
 use Rattle.texts.specs.Ascii.{ascii}
-use Rattle.record.specs.declared.variant.Kind.the-variants.{Prot}
+use Rattle.record.specs.declared.Kind.the-variants.{Prot}
 use Rattle.grammar.specs.Header.{Accession.accession, Header, Header.header}
 use Rattle.grammar.specs.Positions.{Residual.residual}
 use Rattle.grammar.specs.Shapes.{Interval.one, Interval.two, Mu.certain, Mu.uncertain, Both.both}

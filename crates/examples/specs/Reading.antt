@@ -12,30 +12,30 @@ use borrow.Author.Tests.{leb-true, leb-false}
 use Rattle.texts.specs.Ascii.{ascii}
 use Rattle.number.specs.Digits.{valFrom}
 use Rattle.number.specs.Reading.{saturated}
-use Rattle.record.specs.declared.spans.Span.{Span}
-use Rattle.record.specs.declared.spans.Part.{Part}
-use Rattle.record.specs.declared.spans.Part.the-variants as Pt
-use Rattle.record.specs.declared.positions.Offset.{Offset}
-use Rattle.record.specs.declared.positions.Offset.the-variants.{Absent, By}
-use Rattle.record.specs.declared.positions.CdsFrom.{CdsFrom}
-use Rattle.record.specs.declared.positions.CdsFrom.the-variants.{Start, End}
-use Rattle.record.specs.declared.positions.CdsPos.{CdsPos}
-use Rattle.record.specs.declared.positions.ProtPos.{ProtPos}
-use Rattle.record.specs.declared.positions.GenomePos.the-variants.{Unknown}
-use Rattle.record.specs.declared.positions.MuCdsInterval.the-variants as MuCds
-use Rattle.record.specs.declared.positions.MuGenomeInterval.the-variants as MuGenome
-use Rattle.record.specs.declared.positions.MuProtInterval.the-variants as MuProt
-use Rattle.record.specs.declared.edits.NaEdit as D
-use Rattle.record.specs.declared.edits.NaEdit.the-variants.{RefAlt, DelRef}
-use Rattle.record.specs.declared.edits.MuNaEdit.the-variants as MuNa
-use Rattle.record.specs.declared.edits.UncertainLengthChange.the-variants.{Known}
-use Rattle.record.specs.declared.edits.ProteinEdit.the-variants.{Subst, Ext}
-use Rattle.record.specs.declared.edits.MuProteinEdit.the-variants as MuPr
-use Rattle.record.specs.declared.variant.ProtLocEdit.the-variants.{Ordinary, InitiationUncertain}
-use Rattle.record.specs.declared.variant.Body.{Body}
-use Rattle.record.specs.declared.variant.Body.the-variants as Bo
-use Rattle.record.specs.declared.answers.ReadAnswer.{ReadAnswer}
-use Rattle.record.specs.declared.answers.ReadAnswer.the-variants.{Accepted, TooLong, NotInGrammar, DoesNotFit}
+use Rattle.record.specs.declared.Span.{Span}
+use Rattle.record.specs.declared.Part.{Part}
+use Rattle.record.specs.declared.Part.the-variants as Pt
+use Rattle.record.specs.declared.Offset.{Offset}
+use Rattle.record.specs.declared.Offset.the-variants.{Absent, By}
+use Rattle.record.specs.declared.CdsFrom.{CdsFrom}
+use Rattle.record.specs.declared.CdsFrom.the-variants.{Start, End}
+use Rattle.record.specs.declared.CdsPos.{CdsPos}
+use Rattle.record.specs.declared.ProtPos.{ProtPos}
+use Rattle.record.specs.declared.GenomePos.the-variants.{Unknown}
+use Rattle.record.specs.declared.MuCdsInterval.the-variants as MuCds
+use Rattle.record.specs.declared.MuGenomeInterval.the-variants as MuGenome
+use Rattle.record.specs.declared.MuProtInterval.the-variants as MuProt
+use Rattle.record.specs.declared.NaEdit as D
+use Rattle.record.specs.declared.NaEdit.the-variants.{RefAlt, DelRef}
+use Rattle.record.specs.declared.MuNaEdit.the-variants as MuNa
+use Rattle.record.specs.declared.UncertainLengthChange.the-variants.{Known}
+use Rattle.record.specs.declared.ProteinEdit.the-variants.{Subst, Ext}
+use Rattle.record.specs.declared.MuProteinEdit.the-variants as MuPr
+use Rattle.record.specs.declared.ProtLocEdit.the-variants.{Ordinary, InitiationUncertain}
+use Rattle.record.specs.declared.Body.{Body}
+use Rattle.record.specs.declared.Body.the-variants as Bo
+use Rattle.record.specs.declared.ReadAnswer.{ReadAnswer}
+use Rattle.record.specs.declared.ReadAnswer.the-variants.{Accepted, TooLong, NotInGrammar, DoesNotFit}
 use Rattle.grammar.specs.Texts.{Text, allLetters}
 use Rattle.grammar.specs.Records.{recordAt}
 use Rattle.grammar.specs.Numbers.{misfit, numbersAt}

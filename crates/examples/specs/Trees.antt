@@ -3,7 +3,7 @@ use mathlib.Core.Path.{_≡_, refl}
 use mathlib.Core.List.{List, _++_}
 use mathlib.Core.Option.{some}
 use Rattle.texts.specs.Ascii.{ascii}
-use Rattle.record.specs.declared.variant.Kind.the-variants.{Prot}
+use Rattle.record.specs.declared.Kind.the-variants.{Prot}
 use Rattle.grammar.specs.Bodies.{ProteinBody.met1, ProteinBody.bracketedMet1}
 use Rattle.grammar.specs.Texts.{Text, Text.text, allLetters}
 use Rattle.promise.specs.Reading.{TreeOf}

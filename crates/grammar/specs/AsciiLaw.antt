@@ -11,8 +11,8 @@ use Rattle.alphabet.specs.Classes.{member}
 use Rattle.alphabet.specs.Apart.{isAscii, member-ascii}
 use Rattle.alphabet.specs.declared.Class.the-variants.{Digit, Letter, Alphanumeric, Nucleotide}
 use Rattle.residue.specs.Laws.{residue-ascii, residues-ascii}
-use Rattle.record.specs.declared.variant.Kind.{Kind}
-use Rattle.record.specs.declared.variant.Kind.the-variants.{Cds, Genome, Mt, Tx, Prot, Rna}
+use Rattle.record.specs.declared.Kind.{Kind}
+use Rattle.record.specs.declared.Kind.the-variants.{Cds, Genome, Mt, Tx, Prot, Rna}
 use Rattle.grammar.specs.Optional.{printOptional, WfOptional}
 use Rattle.grammar.specs.Header.{Accession, Accession.accession, printAccession, WfAccession, printGene, printKind, Header, Header.header, printHeader, WfHeader}
 use Rattle.grammar.specs.Positions.{Mark, Mark.bare, Mark.plus, Mark.minus, Mark.star, Offset, Offset.absent, Offset.ahead, Offset.back, Based, Based.based, Genomic, Genomic.known, Genomic.unknown, Residual.residual, Position, printMark, printOffset, printBased, printGenomic, printPosition, Digits, WfOffset, WfBased, WfGenomic, WfPosition}

@@ -4,8 +4,8 @@ use mathlib.Core.Path.{_≡_}
 use mathlib.Core.List.{List, _++_}
 use mathlib.Core.Bool.{Bool}
 use Rattle.texts.specs.Ascii.{ascii}
-use Rattle.record.specs.declared.variant.Kind.{Kind}
-use Rattle.record.specs.declared.variant.Kind.the-variants.{Cds, Genome, Mt, Tx, Prot, Rna}
+use Rattle.record.specs.declared.Kind.{Kind}
+use Rattle.record.specs.declared.Kind.the-variants.{Cds, Genome, Mt, Tx, Prot, Rna}
 use Rattle.grammar.specs.Positions.{Position, printPosition, WfPosition}
 use Rattle.grammar.specs.Shapes.{Interval, Mu, Both, printInterval, WfInterval, printMu, WfMu, printBoth, WfBoth}
 use Rattle.grammar.specs.NucleotideEdits.{NaEdit, printNaEdit, WfNaEdit}

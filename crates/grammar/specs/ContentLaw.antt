@@ -6,8 +6,8 @@ use mathlib.Core.Option.{Option, none, some}
 use lib.ListN.{length}
 use Rattle.texts.specs.Ascii.{ascii}
 use Rattle.number.specs.declared.Sign.the-variants.{Plain}
-use Rattle.record.specs.declared.variant.Kind.{Kind}
-use Rattle.record.specs.declared.variant.Kind.the-variants.{Cds, Genome, Mt, Tx, Prot, Rna}
+use Rattle.record.specs.declared.Kind.{Kind}
+use Rattle.record.specs.declared.Kind.the-variants.{Cds, Genome, Mt, Tx, Prot, Rna}
 use Rattle.grammar.specs.Header.{Header, Header.header, printAccession, printGene, printHeader, printKind}
 use Rattle.grammar.specs.Positions.{Residual, Residual.residual, Position, printPosition}
 use Rattle.grammar.specs.Shapes.{Interval.one, Interval.two, Mu, Mu.certain, Mu.uncertain, Both, Both.both, printMu}

@@ -2,30 +2,30 @@
 use Prim.Native.Nat.{ℕ}
 use mathlib.Core.List.{List}
 use mathlib.Core.Bool.{Bool, true, _&&_}
-use Rattle.record.specs.declared.variant.Kind.{Kind}
-use Rattle.record.specs.declared.variant.Kind.the-variants.{Cds, Genome, Mt, Tx, Prot, Rna}
-use Rattle.record.specs.declared.positions.ProtPos.{ProtPos}
-use Rattle.record.specs.declared.positions.MuCdsInterval.the-variants as MuCds
-use Rattle.record.specs.declared.positions.MuGenomeInterval.the-variants as MuGenome
-use Rattle.record.specs.declared.positions.MuMtInterval.the-variants as MuMt
-use Rattle.record.specs.declared.positions.MuTxInterval.the-variants as MuTx
-use Rattle.record.specs.declared.positions.MuRnaInterval.the-variants as MuRna
-use Rattle.record.specs.declared.positions.MuProtInterval.{MuProtInterval}
-use Rattle.record.specs.declared.positions.MuProtInterval.the-variants as MuProt
-use Rattle.record.specs.declared.edits.NaEdit.{NaEdit}
-use Rattle.record.specs.declared.edits.NaEdit.the-variants.{RefAlt, NumAlt, DelRef, DelNum, Ins, Dup, InvRef, InvNum}
-use Rattle.record.specs.declared.edits.MuNaEdit.{MuNaEdit}
-use Rattle.record.specs.declared.edits.MuNaEdit.the-variants as MuNa
-use Rattle.record.specs.declared.edits.ProteinEdit.{ProteinEdit}
-use Rattle.record.specs.declared.edits.ProteinEdit.the-variants as Pr
-use Rattle.record.specs.declared.edits.MuProteinEdit.{MuProteinEdit}
-use Rattle.record.specs.declared.edits.MuProteinEdit.the-variants as MuPr
-use Rattle.record.specs.declared.variant.ProtLocEdit.{ProtLocEdit}
-use Rattle.record.specs.declared.variant.ProtLocEdit.the-variants.{Ordinary, NoChange, NoChangeUncertain, NoProtein, NoProteinUncertain, Unknown, InitiationUncertain}
-use Rattle.record.specs.declared.variant.Header.{Header}
-use Rattle.record.specs.declared.variant.Body.{Body}
-use Rattle.record.specs.declared.variant.Body.the-variants as Bo
-use Rattle.record.specs.declared.variant.HgvsVariant.{HgvsVariant}
+use Rattle.record.specs.declared.Kind.{Kind}
+use Rattle.record.specs.declared.Kind.the-variants.{Cds, Genome, Mt, Tx, Prot, Rna}
+use Rattle.record.specs.declared.ProtPos.{ProtPos}
+use Rattle.record.specs.declared.MuCdsInterval.the-variants as MuCds
+use Rattle.record.specs.declared.MuGenomeInterval.the-variants as MuGenome
+use Rattle.record.specs.declared.MuMtInterval.the-variants as MuMt
+use Rattle.record.specs.declared.MuTxInterval.the-variants as MuTx
+use Rattle.record.specs.declared.MuRnaInterval.the-variants as MuRna
+use Rattle.record.specs.declared.MuProtInterval.{MuProtInterval}
+use Rattle.record.specs.declared.MuProtInterval.the-variants as MuProt
+use Rattle.record.specs.declared.NaEdit.{NaEdit}
+use Rattle.record.specs.declared.NaEdit.the-variants.{RefAlt, NumAlt, DelRef, DelNum, Ins, Dup, InvRef, InvNum}
+use Rattle.record.specs.declared.MuNaEdit.{MuNaEdit}
+use Rattle.record.specs.declared.MuNaEdit.the-variants as MuNa
+use Rattle.record.specs.declared.ProteinEdit.{ProteinEdit}
+use Rattle.record.specs.declared.ProteinEdit.the-variants as Pr
+use Rattle.record.specs.declared.MuProteinEdit.{MuProteinEdit}
+use Rattle.record.specs.declared.MuProteinEdit.the-variants as MuPr
+use Rattle.record.specs.declared.ProtLocEdit.{ProtLocEdit}
+use Rattle.record.specs.declared.ProtLocEdit.the-variants.{Ordinary, NoChange, NoChangeUncertain, NoProtein, NoProteinUncertain, Unknown, InitiationUncertain}
+use Rattle.record.specs.declared.Header.{Header}
+use Rattle.record.specs.declared.Body.{Body}
+use Rattle.record.specs.declared.Body.the-variants as Bo
+use Rattle.record.specs.declared.HgvsVariant.{HgvsVariant}
 use Rattle.grammar.specs.Shapes.{Mu, Mu.certain, Mu.uncertain, Both.both}
 use Rattle.grammar.specs.Spans.{inside, part, insideOptional, optionalPart}
 use Rattle.grammar.specs.Records.{PositionR, IntervalR, MuIntervalR}

@@ -8,8 +8,8 @@ use lib.ListN.{length}
 use Rattle.texts.specs.Ascii.{ascii}
 use Rattle.texts.specs.Runs.{Some}
 use Rattle.alphabet.specs.Letters.{letter, digit, alphanumeric}
-use Rattle.record.specs.declared.variant.Kind.{Kind}
-use Rattle.record.specs.declared.variant.Kind.the-variants.{Cds, Genome, Mt, Tx, Prot, Rna}
+use Rattle.record.specs.declared.Kind.{Kind}
+use Rattle.record.specs.declared.Kind.the-variants.{Cds, Genome, Mt, Tx, Prot, Rna}
 use Rattle.grammar.specs.Optional.{printOptional, WfOptional}
 
 -- one letter, one or more letters or digits, optionally `_` with one or more letters or digits, optionally `.` with digits

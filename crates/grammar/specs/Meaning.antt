@@ -8,21 +8,21 @@ use Rattle.number.specs.declared.Sign.{Sign}
 use Rattle.number.specs.declared.Sign.the-variants.{Plain, Minus, Negated}
 use Rattle.number.specs.Digits.{val}
 use Rattle.number.specs.Reading.{saturated}
-use Rattle.record.specs.declared.variant.Kind.{Kind}
-use Rattle.record.specs.declared.variant.Kind.the-variants.{Cds, Genome, Mt, Tx, Prot, Rna}
-use Rattle.record.specs.declared.positions.Offset as Declared
-use Rattle.record.specs.declared.positions.Offset.the-variants.{Absent, By}
-use Rattle.record.specs.declared.positions.CdsFrom.{CdsFrom}
-use Rattle.record.specs.declared.positions.CdsFrom.the-variants.{Start, End}
-use Rattle.record.specs.declared.positions.CdsPos.{CdsPos}
-use Rattle.record.specs.declared.positions.GenomePos.{GenomePos}
-use Rattle.record.specs.declared.positions.GenomePos.the-variants.{Unknown as UnknownG, At as AtG}
-use Rattle.record.specs.declared.positions.MtPos.{MtPos}
-use Rattle.record.specs.declared.positions.MtPos.the-variants.{Unknown as UnknownM, At as AtM}
-use Rattle.record.specs.declared.positions.TxPos.{TxPos}
-use Rattle.record.specs.declared.positions.RnaPos.{RnaPos}
-use Rattle.record.specs.declared.edits.UncertainLengthChange.{UncertainLengthChange}
-use Rattle.record.specs.declared.edits.UncertainLengthChange.the-variants.{None, Unknown, Known}
+use Rattle.record.specs.declared.Kind.{Kind}
+use Rattle.record.specs.declared.Kind.the-variants.{Cds, Genome, Mt, Tx, Prot, Rna}
+use Rattle.record.specs.declared.Offset as Declared
+use Rattle.record.specs.declared.Offset.the-variants.{Absent, By}
+use Rattle.record.specs.declared.CdsFrom.{CdsFrom}
+use Rattle.record.specs.declared.CdsFrom.the-variants.{Start, End}
+use Rattle.record.specs.declared.CdsPos.{CdsPos}
+use Rattle.record.specs.declared.GenomePos.{GenomePos}
+use Rattle.record.specs.declared.GenomePos.the-variants.{Unknown as UnknownG, At as AtG}
+use Rattle.record.specs.declared.MtPos.{MtPos}
+use Rattle.record.specs.declared.MtPos.the-variants.{Unknown as UnknownM, At as AtM}
+use Rattle.record.specs.declared.TxPos.{TxPos}
+use Rattle.record.specs.declared.RnaPos.{RnaPos}
+use Rattle.record.specs.declared.UncertainLengthChange.{UncertainLengthChange}
+use Rattle.record.specs.declared.UncertainLengthChange.the-variants.{None, Unknown, Known}
 use Rattle.grammar.specs.Header.{Header, Header.header, printAccession}
 use Rattle.grammar.specs.Positions.{Mark, Mark.bare, Mark.plus, Mark.minus, Mark.star, Offset, Offset.absent, Offset.ahead, Offset.back, Based, Based.based, Genomic, Genomic.known, Genomic.unknown, Residual, Residual.residual, Position}
 use Rattle.grammar.specs.Shapes.{Interval, Interval.one, Interval.two, Mu, Mu.certain, Mu.uncertain, Both, Both.both}

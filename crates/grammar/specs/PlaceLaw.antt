@@ -11,8 +11,8 @@ use Rattle.texts.specs.Tests.{none-some}
 use Rattle.number.specs.declared.Sign.{Sign}
 use Rattle.number.specs.Digits.{val}
 use Rattle.number.specs.Reading.{fits}
-use Rattle.record.specs.declared.variant.Kind.{Kind}
-use Rattle.record.specs.declared.variant.Kind.the-variants.{Cds, Genome, Mt, Tx, Prot, Rna}
+use Rattle.record.specs.declared.Kind.{Kind}
+use Rattle.record.specs.declared.Kind.the-variants.{Cds, Genome, Mt, Tx, Prot, Rna}
 use Rattle.grammar.specs.Header.{printHeader, printKind}
 use Rattle.grammar.specs.Positions.{Offset, Offset.absent, Offset.ahead, Offset.back, Based, Based.based, Genomic, Genomic.known, Genomic.unknown, Residual.residual, Position, printMark, printOffset, printBased, printGenomic, printPosition, Digits, WfOffset, WfBased, WfGenomic, WfPosition}
 use Rattle.grammar.specs.Shapes.{Interval.one, Interval.two, Mu, Mu.certain, Mu.uncertain, Both.both, printMu, WfMu}

@@ -7,8 +7,8 @@ use Rattle.texts.specs.Ascii.{ascii}
 use Rattle.texts.specs.Runs.{Some}
 use Rattle.alphabet.specs.Letters.{digit}
 use Rattle.residue.specs.Residues.{isResidue}
-use Rattle.record.specs.declared.variant.Kind.{Kind}
-use Rattle.record.specs.declared.variant.Kind.the-variants.{Cds, Genome, Mt, Tx, Prot, Rna}
+use Rattle.record.specs.declared.Kind.{Kind}
+use Rattle.record.specs.declared.Kind.the-variants.{Cds, Genome, Mt, Tx, Prot, Rna}
 
 -- what stands before the digits of a base: `+` or `-` or nothing (from start), `*` (from end)
 pub data Mark : Type 0 where

@@ -4,50 +4,50 @@ use mathlib.Core.List.{List, []}
 use mathlib.Core.Option.{Option, none, some}
 use lib.ListN.{length}
 use Rattle.number.specs.declared.Sign.the-variants.{Plain, Negated}
-use Rattle.record.specs.declared.spans.Span.{Span}
-use Rattle.record.specs.declared.spans.Part.{Part}
-use Rattle.record.specs.declared.spans.Part.the-variants.{Absent, Present}
-use Rattle.record.specs.declared.variant.Kind.{Kind}
-use Rattle.record.specs.declared.variant.Kind.the-variants.{Cds, Genome, Mt, Tx, Prot, Rna}
-use Rattle.record.specs.declared.positions.CdsPos.{CdsPos}
-use Rattle.record.specs.declared.positions.GenomePos.{GenomePos}
-use Rattle.record.specs.declared.positions.MtPos.{MtPos}
-use Rattle.record.specs.declared.positions.TxPos.{TxPos}
-use Rattle.record.specs.declared.positions.RnaPos.{RnaPos}
-use Rattle.record.specs.declared.positions.ProtPos.{ProtPos}
-use Rattle.record.specs.declared.positions.CdsInterval.{CdsInterval}
-use Rattle.record.specs.declared.positions.GenomeInterval.{GenomeInterval}
-use Rattle.record.specs.declared.positions.MtInterval.{MtInterval}
-use Rattle.record.specs.declared.positions.TxInterval.{TxInterval}
-use Rattle.record.specs.declared.positions.RnaInterval.{RnaInterval}
-use Rattle.record.specs.declared.positions.ProtInterval.{ProtInterval}
-use Rattle.record.specs.declared.positions.MuCdsInterval.{MuCdsInterval}
-use Rattle.record.specs.declared.positions.MuGenomeInterval.{MuGenomeInterval}
-use Rattle.record.specs.declared.positions.MuMtInterval.{MuMtInterval}
-use Rattle.record.specs.declared.positions.MuTxInterval.{MuTxInterval}
-use Rattle.record.specs.declared.positions.MuRnaInterval.{MuRnaInterval}
-use Rattle.record.specs.declared.positions.MuProtInterval.{MuProtInterval}
-use Rattle.record.specs.declared.positions.MuCdsInterval.the-variants as MuCds
-use Rattle.record.specs.declared.positions.MuGenomeInterval.the-variants as MuGenome
-use Rattle.record.specs.declared.positions.MuMtInterval.the-variants as MuMt
-use Rattle.record.specs.declared.positions.MuTxInterval.the-variants as MuTx
-use Rattle.record.specs.declared.positions.MuRnaInterval.the-variants as MuRna
-use Rattle.record.specs.declared.positions.MuProtInterval.the-variants as MuProt
-use Rattle.record.specs.declared.edits.NaEdit as D
-use Rattle.record.specs.declared.edits.NaEdit.the-variants as Na
-use Rattle.record.specs.declared.edits.MuNaEdit.{MuNaEdit}
-use Rattle.record.specs.declared.edits.MuNaEdit.the-variants as MuNa
-use Rattle.record.specs.declared.edits.UncertainLengthChange.the-variants.{None, Known}
-use Rattle.record.specs.declared.edits.ProteinEdit as DP
-use Rattle.record.specs.declared.edits.ProteinEdit.the-variants as Pr
-use Rattle.record.specs.declared.edits.MuProteinEdit.{MuProteinEdit}
-use Rattle.record.specs.declared.edits.MuProteinEdit.the-variants as MuPr
-use Rattle.record.specs.declared.variant.ProtLocEdit.{ProtLocEdit}
-use Rattle.record.specs.declared.variant.ProtLocEdit.the-variants.{Ordinary, NoChange, NoChangeUncertain, NoProtein, NoProteinUncertain, Unknown, InitiationUncertain}
-use Rattle.record.specs.declared.variant.Header as DH
-use Rattle.record.specs.declared.variant.Body as DB
-use Rattle.record.specs.declared.variant.Body.the-variants as Bo
-use Rattle.record.specs.declared.variant.HgvsVariant.{HgvsVariant}
+use Rattle.record.specs.declared.Span.{Span}
+use Rattle.record.specs.declared.Part.{Part}
+use Rattle.record.specs.declared.Part.the-variants.{Absent, Present}
+use Rattle.record.specs.declared.Kind.{Kind}
+use Rattle.record.specs.declared.Kind.the-variants.{Cds, Genome, Mt, Tx, Prot, Rna}
+use Rattle.record.specs.declared.CdsPos.{CdsPos}
+use Rattle.record.specs.declared.GenomePos.{GenomePos}
+use Rattle.record.specs.declared.MtPos.{MtPos}
+use Rattle.record.specs.declared.TxPos.{TxPos}
+use Rattle.record.specs.declared.RnaPos.{RnaPos}
+use Rattle.record.specs.declared.ProtPos.{ProtPos}
+use Rattle.record.specs.declared.CdsInterval.{CdsInterval}
+use Rattle.record.specs.declared.GenomeInterval.{GenomeInterval}
+use Rattle.record.specs.declared.MtInterval.{MtInterval}
+use Rattle.record.specs.declared.TxInterval.{TxInterval}
+use Rattle.record.specs.declared.RnaInterval.{RnaInterval}
+use Rattle.record.specs.declared.ProtInterval.{ProtInterval}
+use Rattle.record.specs.declared.MuCdsInterval.{MuCdsInterval}
+use Rattle.record.specs.declared.MuGenomeInterval.{MuGenomeInterval}
+use Rattle.record.specs.declared.MuMtInterval.{MuMtInterval}
+use Rattle.record.specs.declared.MuTxInterval.{MuTxInterval}
+use Rattle.record.specs.declared.MuRnaInterval.{MuRnaInterval}
+use Rattle.record.specs.declared.MuProtInterval.{MuProtInterval}
+use Rattle.record.specs.declared.MuCdsInterval.the-variants as MuCds
+use Rattle.record.specs.declared.MuGenomeInterval.the-variants as MuGenome
+use Rattle.record.specs.declared.MuMtInterval.the-variants as MuMt
+use Rattle.record.specs.declared.MuTxInterval.the-variants as MuTx
+use Rattle.record.specs.declared.MuRnaInterval.the-variants as MuRna
+use Rattle.record.specs.declared.MuProtInterval.the-variants as MuProt
+use Rattle.record.specs.declared.NaEdit as D
+use Rattle.record.specs.declared.NaEdit.the-variants as Na
+use Rattle.record.specs.declared.MuNaEdit.{MuNaEdit}
+use Rattle.record.specs.declared.MuNaEdit.the-variants as MuNa
+use Rattle.record.specs.declared.UncertainLengthChange.the-variants.{None, Known}
+use Rattle.record.specs.declared.ProteinEdit as DP
+use Rattle.record.specs.declared.ProteinEdit.the-variants as Pr
+use Rattle.record.specs.declared.MuProteinEdit.{MuProteinEdit}
+use Rattle.record.specs.declared.MuProteinEdit.the-variants as MuPr
+use Rattle.record.specs.declared.ProtLocEdit.{ProtLocEdit}
+use Rattle.record.specs.declared.ProtLocEdit.the-variants.{Ordinary, NoChange, NoChangeUncertain, NoProtein, NoProteinUncertain, Unknown, InitiationUncertain}
+use Rattle.record.specs.declared.Header as DH
+use Rattle.record.specs.declared.Body as DB
+use Rattle.record.specs.declared.Body.the-variants as Bo
+use Rattle.record.specs.declared.HgvsVariant.{HgvsVariant}
 use Rattle.grammar.specs.Header.{Header, Header.header, printAccession, printHeader, printKind}
 use Rattle.grammar.specs.Positions.{Residual, Residual.residual, Position, printPosition}
 use Rattle.grammar.specs.Shapes.{Interval.one, Interval.two, Mu, Mu.certain, Mu.uncertain, Both.both}

@@ -5,9 +5,9 @@ use mathlib.Core.Option.{Option, none, some}
 use mathlib.Core.Bool.{Bool, true, cond, _&&_}
 use lib.Dec.{leb}
 use lib.ListN.{length, take, drop}
-use Rattle.record.specs.declared.spans.Span.{Span}
-use Rattle.record.specs.declared.spans.Part.{Part}
-use Rattle.record.specs.declared.spans.Part.the-variants.{Absent, Present}
+use Rattle.record.specs.declared.Span.{Span}
+use Rattle.record.specs.declared.Part.{Part}
+use Rattle.record.specs.declared.Part.the-variants.{Absent, Present}
 
 -- it does not start after its end, and does not end past a source of n bytes
 abbrev pub inside : ℕ → Span → Bool

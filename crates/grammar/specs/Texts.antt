@@ -3,7 +3,7 @@ use Prim.Native.Nat.{ℕ}
 use mathlib.Core.List.{List, _++_}
 use mathlib.Core.Bool.{Bool}
 use Rattle.alphabet.specs.Letters.{nucleotide}
-use Rattle.record.specs.declared.variant.Kind.{Kind}
+use Rattle.record.specs.declared.Kind.{Kind}
 use Rattle.grammar.specs.Header.{Header, printHeader, WfHeader, printKind}
 use Rattle.grammar.specs.Bodies.{Body, printBody, WfBody}
 

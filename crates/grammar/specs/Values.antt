@@ -3,14 +3,14 @@ use Prim.Native.Nat.{ℕ}
 use mathlib.Core.List.{List}
 use mathlib.Core.Option.{Option}
 use lib.IntN.{ℤ}
-use Rattle.record.specs.declared.variant.Kind.{Kind}
-use Rattle.record.specs.declared.variant.Kind.the-variants.{Cds, Genome, Mt, Tx, Prot, Rna}
-use Rattle.record.specs.declared.positions.CdsPos.{CdsPos}
-use Rattle.record.specs.declared.positions.GenomePos.{GenomePos}
-use Rattle.record.specs.declared.positions.MtPos.{MtPos}
-use Rattle.record.specs.declared.positions.TxPos.{TxPos}
-use Rattle.record.specs.declared.positions.RnaPos.{RnaPos}
-use Rattle.record.specs.declared.edits.UncertainLengthChange.{UncertainLengthChange}
+use Rattle.record.specs.declared.Kind.{Kind}
+use Rattle.record.specs.declared.Kind.the-variants.{Cds, Genome, Mt, Tx, Prot, Rna}
+use Rattle.record.specs.declared.CdsPos.{CdsPos}
+use Rattle.record.specs.declared.GenomePos.{GenomePos}
+use Rattle.record.specs.declared.MtPos.{MtPos}
+use Rattle.record.specs.declared.TxPos.{TxPos}
+use Rattle.record.specs.declared.RnaPos.{RnaPos}
+use Rattle.record.specs.declared.UncertainLengthChange.{UncertainLengthChange}
 use Rattle.grammar.specs.Shapes.{Mu, Both}
 
 -- a position of p: its residue and its number

@@ -8,8 +8,8 @@ use lib.ListN.{length, drop}
 use Rattle.texts.specs.Ascii.{ascii}
 use Rattle.texts.specs.Tests.{none-some}
 use Rattle.texts.specs.Words.{starts, starts-split}
-use Rattle.record.specs.declared.variant.Kind.{Kind}
-use Rattle.record.specs.declared.variant.Kind.the-variants.{Cds, Genome, Mt, Tx, Prot, Rna}
+use Rattle.record.specs.declared.Kind.{Kind}
+use Rattle.record.specs.declared.Kind.the-variants.{Cds, Genome, Mt, Tx, Prot, Rna}
 use Rattle.grammar.specs.Header.{printKind}
 use Rattle.lang.specs.Lang.{Front, Lang}
 use Rattle.lang.specs.BothLang.{behind}

@@ -7,7 +7,7 @@ use lib.Dec.{leb}
 use lib.ListN.{length}
 use Rattle.texts.specs.Ascii.{ascii}
 use Rattle.number.specs.Digits.{dec}
-use Rattle.record.specs.declared.variant.HgvsVariant.{HgvsVariant}
+use Rattle.record.specs.declared.HgvsVariant.{HgvsVariant}
 use Rattle.grammar.specs.Texts.{Text, print, allLetters}
 use Rattle.grammar.specs.Meaning.{meaning}
 use Rattle.grammar.specs.Numbers.{misfit, numbersAt}

@@ -12,7 +12,7 @@ use Rattle.texts.specs.Tests.{clash}
 use Rattle.texts.specs.Best.{best-length}
 use Rattle.lent.specs.Put.{put, put-front}
 use Rattle.number.specs.Decimals.{dec-short}
-use Rattle.record.specs.declared.variant.HgvsVariant.{HgvsVariant}
+use Rattle.record.specs.declared.HgvsVariant.{HgvsVariant}
 use Rattle.grammar.specs.Texts.{Text, print, allLetters}
 use Rattle.grammar.specs.Meaning.{meaning}
 use Rattle.grammar.specs.Numbers.{misfit, numbersAt}

@@ -7,14 +7,14 @@ use lib.IntN.{ℤ, pos, negsuc}
 use Rattle.number.specs.declared.Sign.the-variants.{Plain, Minus}
 use Rattle.number.specs.Written.{digitsOf, unsignedDigits}
 use Rattle.residue.specs.Residues.{isResidue}
-use Rattle.record.specs.declared.variant.Kind.{Kind}
-use Rattle.record.specs.declared.variant.Kind.the-variants.{Cds, Genome, Mt, Tx, Prot, Rna}
-use Rattle.record.specs.declared.positions.Offset as Declared
-use Rattle.record.specs.declared.positions.Offset.the-variants.{Absent, By}
-use Rattle.record.specs.declared.positions.CdsFrom.{CdsFrom}
-use Rattle.record.specs.declared.positions.CdsFrom.the-variants.{Start, End}
-use Rattle.record.specs.declared.positions.GenomePos.the-variants as G
-use Rattle.record.specs.declared.positions.MtPos.the-variants as M
+use Rattle.record.specs.declared.Kind.{Kind}
+use Rattle.record.specs.declared.Kind.the-variants.{Cds, Genome, Mt, Tx, Prot, Rna}
+use Rattle.record.specs.declared.Offset as Declared
+use Rattle.record.specs.declared.Offset.the-variants.{Absent, By}
+use Rattle.record.specs.declared.CdsFrom.{CdsFrom}
+use Rattle.record.specs.declared.CdsFrom.the-variants.{Start, End}
+use Rattle.record.specs.declared.GenomePos.the-variants as G
+use Rattle.record.specs.declared.MtPos.the-variants as M
 use Rattle.grammar.specs.Positions.{Mark, Mark.bare, Mark.minus, Mark.star, Offset, Offset.absent, Offset.ahead, Offset.back, Based, Based.based, Genomic, Genomic.known, Genomic.unknown, Residual.residual, Position}
 use Rattle.grammar.specs.Values.{ProtPosV.protPosV, PositionV}
 use Rattle.lang.specs.Canon.{mapO, bothO}

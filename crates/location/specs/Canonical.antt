@@ -19,17 +19,17 @@ use Rattle.number.specs.Reading.{signed, most, fits}
 use Rattle.number.specs.Signs.{saturated-fit}
 use Rattle.number.specs.Written.{Written, digitsOf, unsignedDigits, digits-written, unsigned-written, digits-found, unsigned-found}
 use Rattle.residue.specs.Residues.{isResidue}
-use Rattle.record.specs.declared.variant.Kind.{Kind}
-use Rattle.record.specs.declared.variant.Kind.the-variants.{Cds, Genome, Mt, Tx, Prot, Rna}
-use Rattle.record.specs.declared.positions.Offset as Declared
-use Rattle.record.specs.declared.positions.Offset.the-variants.{Absent, By}
-use Rattle.record.specs.declared.positions.CdsFrom.{CdsFrom}
-use Rattle.record.specs.declared.positions.CdsFrom.the-variants.{Start, End}
-use Rattle.record.specs.declared.positions.CdsPos.{CdsPos}
-use Rattle.record.specs.declared.positions.GenomePos.the-variants as G
-use Rattle.record.specs.declared.positions.TxPos.{TxPos}
-use Rattle.record.specs.declared.positions.RnaPos.{RnaPos}
-use Rattle.record.specs.declared.positions.MtPos.the-variants as M
+use Rattle.record.specs.declared.Kind.{Kind}
+use Rattle.record.specs.declared.Kind.the-variants.{Cds, Genome, Mt, Tx, Prot, Rna}
+use Rattle.record.specs.declared.Offset as Declared
+use Rattle.record.specs.declared.Offset.the-variants.{Absent, By}
+use Rattle.record.specs.declared.CdsFrom.{CdsFrom}
+use Rattle.record.specs.declared.CdsFrom.the-variants.{Start, End}
+use Rattle.record.specs.declared.CdsPos.{CdsPos}
+use Rattle.record.specs.declared.GenomePos.the-variants as G
+use Rattle.record.specs.declared.TxPos.{TxPos}
+use Rattle.record.specs.declared.RnaPos.{RnaPos}
+use Rattle.record.specs.declared.MtPos.the-variants as M
 use Rattle.grammar.specs.Positions.{Mark, Mark.bare, Mark.plus, Mark.minus, Mark.star, Offset, Offset.absent, Offset.ahead, Offset.back, Based, Based.based, Genomic, Genomic.known, Genomic.unknown, Residual.residual, Position, printMark, printOffset, printBased, printGenomic, Digits, WfOffset, WfBased, Unstarred, WfUnstarred, WfGenomic, WfPosition}
 use Rattle.grammar.specs.Values.{ProtPosV.protPosV, PositionV}
 use Rattle.grammar.specs.Meaning.{number, signOf, fromOf, offsetOf, meaningCds, meaningGenome, meaningMt, meaningPosition}

@@ -9,15 +9,15 @@ use mir.Val.{SFits, toZ, ofZ}
 use mir.Facts.{toZ-ofZ}
 use Rattle.texts.specs.Tests.{and-true, true-and, clash, never}
 use Rattle.texts.specs.Words.{same, same-true, same-refl}
-use Rattle.record.specs.declared.variant.Kind.{Kind}
-use Rattle.record.specs.declared.variant.Kind.the-variants.{Cds, Genome, Mt, Tx, Prot, Rna}
-use Rattle.record.specs.declared.positions.Offset.{Offset}
-use Rattle.record.specs.declared.positions.Offset.the-variants.{Absent, By}
-use Rattle.record.specs.declared.positions.CdsFrom.{CdsFrom}
-use Rattle.record.specs.declared.positions.CdsFrom.the-variants.{Start, End}
-use Rattle.record.specs.declared.positions.CdsPos.{CdsPos}
-use Rattle.record.specs.declared.positions.GenomePos.the-variants as G
-use Rattle.record.specs.declared.positions.MtPos.the-variants as M
+use Rattle.record.specs.declared.Kind.{Kind}
+use Rattle.record.specs.declared.Kind.the-variants.{Cds, Genome, Mt, Tx, Prot, Rna}
+use Rattle.record.specs.declared.Offset.{Offset}
+use Rattle.record.specs.declared.Offset.the-variants.{Absent, By}
+use Rattle.record.specs.declared.CdsFrom.{CdsFrom}
+use Rattle.record.specs.declared.CdsFrom.the-variants.{Start, End}
+use Rattle.record.specs.declared.CdsPos.{CdsPos}
+use Rattle.record.specs.declared.GenomePos.the-variants as G
+use Rattle.record.specs.declared.MtPos.the-variants as M
 use Rattle.grammar.specs.Values.{ProtPosV.protPosV, PositionV}
 
 abbrev pub eqℤ : ℤ → ℤ → Bool

@@ -14,8 +14,8 @@ use Rattle.texts.specs.Words.{starts, starts-other}
 use Rattle.alphabet.specs.Letters.{among, digit, residue}
 use Rattle.alphabet.specs.Apart.{none-among}
 use Rattle.residue.specs.Laws.{residue-first, residue-some}
-use Rattle.record.specs.declared.variant.Kind.{Kind}
-use Rattle.record.specs.declared.variant.Kind.the-variants.{Cds, Genome, Mt, Tx, Prot, Rna}
+use Rattle.record.specs.declared.Kind.{Kind}
+use Rattle.record.specs.declared.Kind.the-variants.{Cds, Genome, Mt, Tx, Prot, Rna}
 use Rattle.grammar.specs.Positions.{Mark.bare, Mark.plus, Mark.minus, Mark.star, Based, Based.based, Genomic, Genomic.known, Genomic.unknown, Residual, Residual.residual, Position, printOffset, printBased, printGenomic, printResidual, printPosition, WfBased, WfGenomic, WfResidual, WfPosition}
 use Rattle.grammar.specs.Shapes.{Interval.one, Interval.two}
 use Rattle.grammar.specs.Bodies.{Ends, printEnds, WfEnds}

@@ -14,8 +14,8 @@ use Rattle.number.specs.Digits.{val}
 use Rattle.number.specs.Reading.{most, isPlain}
 use Rattle.number.specs.Signs.{saturated-fit}
 use Rattle.number.specs.Plain.{plain-found, unsigned-plain, minus-plain}
-use Rattle.record.specs.declared.variant.Kind.{Kind}
-use Rattle.record.specs.declared.variant.Kind.the-variants.{Cds, Genome, Mt, Tx, Prot, Rna}
+use Rattle.record.specs.declared.Kind.{Kind}
+use Rattle.record.specs.declared.Kind.the-variants.{Cds, Genome, Mt, Tx, Prot, Rna}
 use Rattle.grammar.specs.Positions.{Mark, Mark.bare, Mark.plus, Mark.minus, Mark.star, Offset, Offset.absent, Offset.ahead, Offset.back, Based, Based.based, Genomic, Genomic.known, Genomic.unknown, Residual, Residual.residual, Position, printMark, printPosition, Digits, WfOffset, WfBased, WfGenomic, WfPosition}
 use Rattle.grammar.specs.Shapes.{Interval.one, Interval.two, Mu.certain, Mu.uncertain}
 use Rattle.grammar.specs.Bodies.{Ends, WfEnds, Location, WfLocation}

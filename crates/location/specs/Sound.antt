@@ -18,8 +18,8 @@ use Rattle.alphabet.specs.Letters.{digit}
 use Rattle.residue.specs.Residues.{isResidue}
 use Rattle.residue.specs.Reading.{residueLen}
 use Rattle.residue.specs.Laws.{residue-complete, residue-sound, residue-some, continues-digits}
-use Rattle.record.specs.declared.variant.Kind.{Kind}
-use Rattle.record.specs.declared.variant.Kind.the-variants.{Cds, Genome, Mt, Tx, Prot, Rna}
+use Rattle.record.specs.declared.Kind.{Kind}
+use Rattle.record.specs.declared.Kind.the-variants.{Cds, Genome, Mt, Tx, Prot, Rna}
 use Rattle.grammar.specs.Positions.{Mark, Mark.bare, Mark.plus, Mark.minus, Mark.star, Offset, Offset.absent, Offset.ahead, Offset.back, Based, Based.based, Genomic, Genomic.known, Genomic.unknown, Residual, Residual.residual, Position, printMark, printOffset, printBased, printGenomic, printResidual, printPosition, Digits, WfOffset, WfBased, WfUnstarred, WfGenomic, WfResidual, WfPosition}
 use Rattle.lang.specs.Lang.{Front}
 use Rattle.location.specs.Parse.{onDigits, parseMark, parseOffset, parseBased, parseUnstarred, parseGenomic, parseResidual, parsePosition}

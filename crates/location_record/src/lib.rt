@@ -1,26 +1,26 @@
 // A location of any kind as that of a record, of each kind.
 use read_location::Location;
 use read_location::Position;
-use record::positions::CdsInterval;
-use record::positions::CdsPos;
-use record::positions::GenomeInterval;
-use record::positions::GenomePos;
-use record::positions::MtInterval;
-use record::positions::MtPos;
-use record::positions::MuCdsInterval;
-use record::positions::MuGenomeInterval;
-use record::positions::MuMtInterval;
-use record::positions::MuProtInterval;
-use record::positions::MuRnaInterval;
-use record::positions::MuTxInterval;
-use record::positions::ProtInterval;
-use record::positions::ProtPos;
-use record::positions::RnaInterval;
-use record::positions::RnaPos;
-use record::positions::TxInterval;
-use record::positions::TxPos;
+use record::CdsInterval;
+use record::CdsPos;
+use record::GenomeInterval;
+use record::GenomePos;
+use record::MtInterval;
+use record::MtPos;
+use record::MuCdsInterval;
+use record::MuGenomeInterval;
+use record::MuMtInterval;
+use record::MuProtInterval;
+use record::MuRnaInterval;
+use record::MuTxInterval;
+use record::ProtInterval;
+use record::ProtPos;
+use record::RnaInterval;
+use record::RnaPos;
+use record::TxInterval;
+use record::TxPos;
 ghost use mathlib.Core.Path.{_≡_};
-ghost use Rattle.record.specs.declared.variant.Kind.the-variants.{Cds, Genome, Mt, Tx, Prot, Rna};
+ghost use Rattle.record.specs.declared.Kind.the-variants.{Cds, Genome, Mt, Tx, Prot, Rna};
 ghost use Rattle.read_location.specs.Records.{positionFor, locationFor};
 
 fn cds(p: Position) -> CdsPos

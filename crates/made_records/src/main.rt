@@ -1,23 +1,23 @@
 // Records that no reader gave: on a line each, behind a TAB each, the shortest text, the text without the reference and the width, or `! ` and the refusal's number.
 use libc::STDOUT_FILENO;
-use record::edits::MuNaEdit;
-use record::edits::MuProteinEdit;
-use record::edits::NaEdit;
-use record::edits::ProteinEdit;
-use record::edits::UncertainLengthChange;
-use record::positions::GenomeInterval;
-use record::positions::GenomePos;
-use record::positions::MuGenomeInterval;
-use record::positions::MuProtInterval;
-use record::positions::ProtInterval;
-use record::positions::ProtPos;
-use record::spans::Part;
-use record::spans::Span;
-use record::variant::Body;
-use record::variant::GenomeLocEdit;
-use record::variant::Header;
-use record::variant::HgvsVariant;
-use record::variant::ProtLocEdit;
+use record::Body;
+use record::GenomeInterval;
+use record::GenomeLocEdit;
+use record::GenomePos;
+use record::Header;
+use record::HgvsVariant;
+use record::MuGenomeInterval;
+use record::MuNaEdit;
+use record::MuProtInterval;
+use record::MuProteinEdit;
+use record::NaEdit;
+use record::Part;
+use record::ProtInterval;
+use record::ProtLocEdit;
+use record::ProtPos;
+use record::ProteinEdit;
+use record::Span;
+use record::UncertainLengthChange;
 
 // ---- parts of the source `AB_12.3GlyMetArgA?Ter`
 

@@ -4,9 +4,9 @@ use mathlib.Core.Path.{_≡_, sym}
 use mathlib.Core.List.{List}
 use mathlib.Core.Bool.{true, false}
 use lib.ListN.{length}
-use Rattle.record.specs.declared.answers.WidthAnswer.{WidthAnswer}
-use Rattle.record.specs.declared.answers.WidthAnswer.the-variants.{Width, TooLong, BadSpan, NoText, NoWidth}
-use Rattle.record.specs.declared.variant.HgvsVariant.{HgvsVariant}
+use Rattle.record.specs.declared.WidthAnswer.{WidthAnswer}
+use Rattle.record.specs.declared.WidthAnswer.the-variants.{Width, TooLong, BadSpan, NoText, NoWidth}
+use Rattle.record.specs.declared.HgvsVariant.{HgvsVariant}
 use Rattle.grammar.specs.Texts.{allLetters}
 use Rattle.grammar.specs.Contents.{spansInside}
 use Rattle.promise.specs.Outcome.{widthOutcome, limit}

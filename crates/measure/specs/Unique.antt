@@ -2,8 +2,8 @@
 use Prim.Native.Nat.{ℕ}
 use mathlib.Core.Path.{_≡_}
 use mathlib.Core.List.{List}
-use Rattle.record.specs.declared.answers.WidthAnswer.{WidthAnswer}
-use Rattle.record.specs.declared.variant.HgvsVariant.{HgvsVariant}
+use Rattle.record.specs.declared.WidthAnswer.{WidthAnswer}
+use Rattle.record.specs.declared.HgvsVariant.{HgvsVariant}
 use Rattle.grammar.specs.Texts.{allLetters}
 use Rattle.promise.specs.Outcome.{widthOutcome}
 use Rattle.promise.specs.Width.{Measures}

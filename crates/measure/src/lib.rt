@@ -1,8 +1,8 @@
 // Measuring a record: how many bases or residues its location spans.
 use body_width::BodyWidth;
 use plan_text::TextPlan;
-use record::answers::WidthAnswer;
-use record::variant::HgvsVariant;
+use record::HgvsVariant;
+use record::WidthAnswer;
 ghost use Rattle.grammar.specs.Texts.{allLetters};
 ghost use Rattle.promise.specs.Outcome.{widthOutcome};
 ghost use Rattle.promise.specs.Width.{Measures};

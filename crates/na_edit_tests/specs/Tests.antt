@@ -7,7 +7,7 @@ use lib.ListN.{length}
 use Rattle.texts.specs.Runs.{every}
 use Rattle.texts.specs.Words.{same, oneEach}
 use Rattle.alphabet.specs.Letters.{nucleotide}
-use Rattle.record.specs.declared.spans.Span.{Span}
+use Rattle.record.specs.declared.Span.{Span}
 use Rattle.grammar.specs.Spans.{part}
 
 module _ (s : List ℕ) where

@@ -1,6 +1,6 @@
 // Tests of the letters that a nucleotide edit names.
 use alphabet::Class;
-use record::spans::Span;
+use record::Span;
 ghost use mathlib.Core.Path.{_≡_};
 ghost use lib.Dec.{leb};
 ghost use lib.ListN.{length};

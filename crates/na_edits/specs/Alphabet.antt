@@ -6,7 +6,7 @@ use mathlib.Core.Bool.{Bool, true, false}
 use Rattle.texts.specs.Tests.{never, clash}
 use Rattle.alphabet.specs.Letters.{letter, digit, nucleotide}
 use Rattle.alphabet.specs.Apart.{letter-no-digit, nucleotide-letter}
-use Rattle.record.specs.declared.variant.Kind.{Kind}
+use Rattle.record.specs.declared.Kind.{Kind}
 use Rattle.grammar.specs.Texts.{allLetters}
 
 pub record Alphabet (na : ℕ → Bool) : Type 0 where

@@ -8,7 +8,7 @@ use lib.ListN.{length, take, drop}
 use borrow.Author.Tests.{leb-true}
 use denote.Ref.{RefT}
 use Rattle.texts.specs.Tests.{and-true}
-use Rattle.record.specs.declared.spans.Span.{Span}
+use Rattle.record.specs.declared.Span.{Span}
 use Rattle.grammar.specs.Spans.{inside, part}
 use Rattle.parts.specs.Places.{placeOf, IsPart}
 

@@ -5,7 +5,7 @@ use mathlib.Core.List.{List}
 use mathlib.Core.Bool.{cond}
 use lib.ListN.{length}
 use denote.Ref.{RefT, ptr, now}
-use Rattle.record.specs.declared.spans.Span.{Span}
+use Rattle.record.specs.declared.Span.{Span}
 use Rattle.grammar.specs.Spans.{inside, part}
 
 -- a block of memory and a place in it: where the span starts in the source; where it lies outside, the source's start

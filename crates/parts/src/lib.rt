@@ -1,5 +1,5 @@
 // Parts of a source that spans name.
-use record::spans::Span;
+use record::Span;
 ghost use mathlib.Core.Path.{_≡_};
 ghost use Rattle.grammar.specs.Spans.{inside as insideOf};
 ghost use Rattle.parts.specs.Places.{IsPart};

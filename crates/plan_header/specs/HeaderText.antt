@@ -8,7 +8,7 @@ use lib.Dec.{leb}
 use lib.ListN.{length}
 use Rattle.texts.specs.Runs.{every}
 use Rattle.alphabet.specs.Letters.{alphanumeric}
-use Rattle.record.specs.declared.variant.Header as Declared
+use Rattle.record.specs.declared.Header as Declared
 use Rattle.grammar.specs.Spans.{part, optionalPart}
 use Rattle.grammar.specs.Header.{Accession, Header.header, printGene, printHeader}
 use Rattle.grammar.specs.Contents.{headerContent}

@@ -1,7 +1,7 @@
 // Which headers have a text: the accession's bytes are one as a whole, and the gene's, where there is one, are letters or digits.
 use alphabet::Class;
-use record::spans::Part;
-use record::variant::Header;
+use record::Header;
+use record::Part;
 ghost use mathlib.Core.Path.{_≡_};
 ghost use Rattle.alphabet.specs.Cells.{IsTable};
 ghost use Rattle.grammar.specs.Spans.{optionalPart};

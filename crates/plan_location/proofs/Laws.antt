@@ -11,8 +11,8 @@ use mir.Val.{SFits}
 use Rattle.texts.specs.Tests.{clash}
 use Rattle.number.specs.Reading.{most}
 use Rattle.number.specs.Signs.{signOf, sign-most}
-use Rattle.record.specs.declared.spans.Span.{Span}
-use Rattle.record.specs.declared.positions.Offset.{Offset}
+use Rattle.record.specs.declared.Span.{Span}
+use Rattle.record.specs.declared.Offset.{Offset}
 use Rattle.emit_piece.specs.declared.Mark.{Mark}
 use Rattle.emit_piece.specs.declared.Amount.{Amount}
 use Rattle.emit_piece.specs.declared.Amount.the-variants.{Count}

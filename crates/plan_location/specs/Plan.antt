@@ -7,13 +7,13 @@ use lib.IntN.{ℤ, pos, negsuc, natAbs}
 use Rattle.number.specs.Reading.{fits}
 use Rattle.number.specs.Signs.{signOf}
 use Rattle.residue.specs.Residues.{isResidue}
-use Rattle.record.specs.declared.spans.Span.{Span}
-use Rattle.record.specs.declared.variant.Kind.{Kind}
-use Rattle.record.specs.declared.variant.Kind.the-variants.{Cds, Genome, Mt, Tx, Prot, Rna}
-use Rattle.record.specs.declared.positions.Offset.{Offset}
-use Rattle.record.specs.declared.positions.Offset.the-variants.{Absent, By}
-use Rattle.record.specs.declared.positions.CdsFrom.{CdsFrom}
-use Rattle.record.specs.declared.positions.CdsFrom.the-variants as From
+use Rattle.record.specs.declared.Span.{Span}
+use Rattle.record.specs.declared.Kind.{Kind}
+use Rattle.record.specs.declared.Kind.the-variants.{Cds, Genome, Mt, Tx, Prot, Rna}
+use Rattle.record.specs.declared.Offset.{Offset}
+use Rattle.record.specs.declared.Offset.the-variants.{Absent, By}
+use Rattle.record.specs.declared.CdsFrom.{CdsFrom}
+use Rattle.record.specs.declared.CdsFrom.the-variants as From
 use Rattle.grammar.specs.Spans.{part}
 use Rattle.read_location.specs.declared.Position.{Position}
 use Rattle.read_location.specs.declared.Location.{Location}

@@ -14,15 +14,15 @@ use Rattle.number.specs.Digits.{dec}
 use Rattle.number.specs.Reading.{fits}
 use Rattle.number.specs.Signs.{signOf}
 use Rattle.residue.specs.Residues.{isResidue}
-use Rattle.record.specs.declared.spans.Span.{Span}
-use Rattle.record.specs.declared.variant.Kind.{Kind}
-use Rattle.record.specs.declared.variant.Kind.the-variants.{Cds, Genome, Mt, Tx, Prot, Rna}
-use Rattle.record.specs.declared.positions.Offset as Declared
-use Rattle.record.specs.declared.positions.Offset.the-variants.{Absent, By}
-use Rattle.record.specs.declared.positions.CdsFrom.{CdsFrom}
-use Rattle.record.specs.declared.positions.CdsFrom.the-variants.{Start, End}
-use Rattle.record.specs.declared.positions.GenomePos.the-variants as Genomes
-use Rattle.record.specs.declared.positions.MtPos.the-variants as Mts
+use Rattle.record.specs.declared.Span.{Span}
+use Rattle.record.specs.declared.Kind.{Kind}
+use Rattle.record.specs.declared.Kind.the-variants.{Cds, Genome, Mt, Tx, Prot, Rna}
+use Rattle.record.specs.declared.Offset as Declared
+use Rattle.record.specs.declared.Offset.the-variants.{Absent, By}
+use Rattle.record.specs.declared.CdsFrom.{CdsFrom}
+use Rattle.record.specs.declared.CdsFrom.the-variants.{Start, End}
+use Rattle.record.specs.declared.GenomePos.the-variants as Genomes
+use Rattle.record.specs.declared.MtPos.the-variants as Mts
 use Rattle.grammar.specs.Positions as G
 use Rattle.grammar.specs.Positions.{Mark.bare, Mark.minus, Mark.star, Offset, Genomic.known, Residual.residual, printMark, printOffset, printBased, printGenomic, printResidual, printPosition}
 use Rattle.grammar.specs.Shapes.{Interval, Interval.one, Interval.two, Mu, Mu.certain, Mu.uncertain, Both.both, printInterval, printMu}

@@ -3,10 +3,10 @@ use Prim.Native.Nat.{ℕ}
 use Prim.Native.Char.{code}
 use mathlib.Core.List.{List}
 use mathlib.Core.Bool.{Bool, true, false, cond}
-use Rattle.record.specs.declared.variant.Kind.{Kind}
-use Rattle.record.specs.declared.edits.NaEdit.{NaEdit}
-use Rattle.record.specs.declared.edits.MuNaEdit.{MuNaEdit}
-use Rattle.record.specs.declared.edits.MuNaEdit.the-variants as MuNa
+use Rattle.record.specs.declared.Kind.{Kind}
+use Rattle.record.specs.declared.NaEdit.{NaEdit}
+use Rattle.record.specs.declared.MuNaEdit.{MuNaEdit}
+use Rattle.record.specs.declared.MuNaEdit.the-variants as MuNa
 use Rattle.read_location.specs.declared.Location.{Location}
 use Rattle.emit_place.specs.declared.Place.{Place}
 use Rattle.emit_row.specs.declared.Row.{Row}

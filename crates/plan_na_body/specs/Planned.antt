@@ -8,10 +8,10 @@ use mathlib.Core.Bool.{Bool, true, false}
 use Rattle.texts.specs.Ascii.{ascii}
 use Rattle.texts.specs.Tests.{none-some}
 use Rattle.alphabet.specs.Letters.{nucleotide}
-use Rattle.record.specs.declared.variant.Kind.{Kind}
-use Rattle.record.specs.declared.edits.NaEdit.{NaEdit}
-use Rattle.record.specs.declared.edits.MuNaEdit.{MuNaEdit}
-use Rattle.record.specs.declared.edits.MuNaEdit.the-variants as MuNa
+use Rattle.record.specs.declared.Kind.{Kind}
+use Rattle.record.specs.declared.NaEdit.{NaEdit}
+use Rattle.record.specs.declared.MuNaEdit.{MuNaEdit}
+use Rattle.record.specs.declared.MuNaEdit.the-variants as MuNa
 use Rattle.grammar.specs.NucleotideEdits as Tree
 use Rattle.grammar.specs.NucleotideEdits.{printNaEdit}
 use Rattle.grammar.specs.Shapes.{Mu, Both.both}

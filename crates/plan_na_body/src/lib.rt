@@ -2,9 +2,9 @@
 use draft::Body;
 use plan_location::PlacePlan;
 use read_location::Location;
-use record::edits::MuNaEdit;
-use record::edits::NaEdit;
-use record::variant::Kind;
+use record::Kind;
+use record::MuNaEdit;
+use record::NaEdit;
 use rows::RowPlan;
 ghost use mathlib.Core.Path.{_≡_};
 ghost use Rattle.alphabet.specs.Cells.{IsTable};

@@ -5,9 +5,9 @@ use mathlib.Core.Bool.{cond, _&&_}
 use lib.Dec.{leb}
 use lib.IntN.{ℤ, natAbs}
 use lib.ListN.{length}
-use Rattle.record.specs.declared.spans.Span.{Span}
-use Rattle.record.specs.declared.edits.NaEdit.{NaEdit}
-use Rattle.record.specs.declared.edits.NaEdit.the-variants as Na
+use Rattle.record.specs.declared.Span.{Span}
+use Rattle.record.specs.declared.NaEdit.{NaEdit}
+use Rattle.record.specs.declared.NaEdit.the-variants as Na
 use Rattle.grammar.specs.Spans.{part}
 use Rattle.emit_word.specs.declared.Word.{Word}
 use Rattle.emit_word.specs.declared.Word.the-variants.{Empty, Del, Ins, Dup, Inv, Equal, Greater}

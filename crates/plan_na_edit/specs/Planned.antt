@@ -12,9 +12,9 @@ use Rattle.texts.specs.Words.{one-each}
 use Rattle.number.specs.Digits.{dec}
 use Rattle.number.specs.Written.{unsignedDigits}
 use Rattle.alphabet.specs.Letters.{nucleotide}
-use Rattle.record.specs.declared.spans.Span.{Span}
-use Rattle.record.specs.declared.edits.NaEdit.{NaEdit}
-use Rattle.record.specs.declared.edits.NaEdit.the-variants as Na
+use Rattle.record.specs.declared.Span.{Span}
+use Rattle.record.specs.declared.NaEdit.{NaEdit}
+use Rattle.record.specs.declared.NaEdit.the-variants as Na
 use Rattle.grammar.specs.Spans.{part}
 use Rattle.grammar.specs.Contents.{naEditContent}
 use Rattle.grammar.specs.NucleotideEdits as Tree

@@ -3,9 +3,9 @@ use Prim.Native.Nat.{ℕ}
 use mathlib.Core.Path.{_≡_, refl}
 use mathlib.Core.List.{List}
 use mathlib.Core.Bool.{Bool, true, false, cond}
-use Rattle.record.specs.declared.spans.Span.{Span}
-use Rattle.record.specs.declared.edits.NaEdit.{NaEdit}
-use Rattle.record.specs.declared.edits.NaEdit.the-variants as Na
+use Rattle.record.specs.declared.Span.{Span}
+use Rattle.record.specs.declared.NaEdit.{NaEdit}
+use Rattle.record.specs.declared.NaEdit.the-variants as Na
 use Rattle.grammar.specs.Contents.{naEditContent}
 use Rattle.promise.specs.NoRef.{noRefEdit}
 use Rattle.emit_word.specs.declared.Word.the-variants.{Del, Ins, DelIns, Dup, Inv, Equal, Greater}

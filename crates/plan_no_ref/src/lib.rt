@@ -1,8 +1,8 @@
 // Which text is to be written for a nucleotide edit without the reference.
 use emit_row::Row;
 use emit_word::Word;
-use record::edits::NaEdit;
-use record::spans::Span;
+use record::NaEdit;
+use record::Span;
 ghost use mathlib.Core.Path.{_≡_};
 ghost use Rattle.plan_no_ref.specs.NoRef.{noRefAlt, noRefRow};
 

@@ -6,13 +6,13 @@ use mathlib.Core.Bool.{Bool, true, false, cond, not, _&&_, _||_}
 use lib.IntN.{pos}
 use Rattle.texts.specs.Ascii.{ascii}
 use Rattle.texts.specs.Words.{same}
-use Rattle.record.specs.declared.spans.Span.{Span}
-use Rattle.record.specs.declared.variant.Kind.the-variants.{Prot}
-use Rattle.record.specs.declared.edits.ProteinEdit.{ProteinEdit}
-use Rattle.record.specs.declared.edits.MuProteinEdit.{MuProteinEdit}
-use Rattle.record.specs.declared.edits.MuProteinEdit.the-variants as MuPr
-use Rattle.record.specs.declared.variant.ProtLocEdit.{ProtLocEdit}
-use Rattle.record.specs.declared.variant.ProtLocEdit.the-variants as Bodies
+use Rattle.record.specs.declared.Span.{Span}
+use Rattle.record.specs.declared.Kind.the-variants.{Prot}
+use Rattle.record.specs.declared.ProteinEdit.{ProteinEdit}
+use Rattle.record.specs.declared.MuProteinEdit.{MuProteinEdit}
+use Rattle.record.specs.declared.MuProteinEdit.the-variants as MuPr
+use Rattle.record.specs.declared.ProtLocEdit.{ProtLocEdit}
+use Rattle.record.specs.declared.ProtLocEdit.the-variants as Bodies
 use Rattle.grammar.specs.Spans.{part}
 use Rattle.grammar.specs.Contents.{proteinEditContent}
 use Rattle.location.specs.Equal.{eqℤ}

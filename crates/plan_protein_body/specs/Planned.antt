@@ -8,13 +8,13 @@ use Rattle.texts.specs.Ascii.{ascii}
 use Rattle.texts.specs.Tests.{none-some, and-true}
 use Rattle.texts.specs.Words.{same, same-true}
 use Rattle.number.specs.Digits.{decUpTo}
-use Rattle.record.specs.declared.spans.Span.{Span}
-use Rattle.record.specs.declared.variant.Kind.the-variants.{Prot}
-use Rattle.record.specs.declared.edits.ProteinEdit.{ProteinEdit}
-use Rattle.record.specs.declared.edits.MuProteinEdit.the-variants as MuPr
-use Rattle.record.specs.declared.positions.MuProtInterval.the-variants as MuProt
-use Rattle.record.specs.declared.variant.ProtLocEdit.{ProtLocEdit}
-use Rattle.record.specs.declared.variant.ProtLocEdit.the-variants as Bodies
+use Rattle.record.specs.declared.Span.{Span}
+use Rattle.record.specs.declared.Kind.the-variants.{Prot}
+use Rattle.record.specs.declared.ProteinEdit.{ProteinEdit}
+use Rattle.record.specs.declared.MuProteinEdit.the-variants as MuPr
+use Rattle.record.specs.declared.MuProtInterval.the-variants as MuProt
+use Rattle.record.specs.declared.ProtLocEdit.{ProtLocEdit}
+use Rattle.record.specs.declared.ProtLocEdit.the-variants as Bodies
 use Rattle.grammar.specs.Spans.{part}
 use Rattle.grammar.specs.Shapes.{Mu.certain, Both.both}
 use Rattle.grammar.specs.ProteinEdits as Tree

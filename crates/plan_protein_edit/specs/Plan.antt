@@ -5,13 +5,13 @@ use mathlib.Core.List.{List}
 use mathlib.Core.Bool.{Bool, true, false, cond, _&&_}
 use lib.IntN.{natAbs}
 use Rattle.residue.specs.Residues.{isResidues}
-use Rattle.record.specs.declared.spans.Span.{Span}
-use Rattle.record.specs.declared.spans.Part.{Part}
-use Rattle.record.specs.declared.spans.Part.the-variants as Pa
-use Rattle.record.specs.declared.edits.UncertainLengthChange.{UncertainLengthChange}
-use Rattle.record.specs.declared.edits.UncertainLengthChange.the-variants.{None, Unknown, Known}
-use Rattle.record.specs.declared.edits.ProteinEdit.{ProteinEdit}
-use Rattle.record.specs.declared.edits.ProteinEdit.the-variants as Pr
+use Rattle.record.specs.declared.Span.{Span}
+use Rattle.record.specs.declared.Part.{Part}
+use Rattle.record.specs.declared.Part.the-variants as Pa
+use Rattle.record.specs.declared.UncertainLengthChange.{UncertainLengthChange}
+use Rattle.record.specs.declared.UncertainLengthChange.the-variants.{None, Unknown, Known}
+use Rattle.record.specs.declared.ProteinEdit.{ProteinEdit}
+use Rattle.record.specs.declared.ProteinEdit.the-variants as Pr
 use Rattle.grammar.specs.Spans.{part}
 use Rattle.emit_word.specs.declared.Word.{Word}
 use Rattle.emit_word.specs.declared.Word.the-variants.{Empty, Del, Ins, DelIns, Dup, Fs, Ext, Equal, Question}

@@ -10,13 +10,13 @@ use Rattle.texts.specs.Ascii.{ascii}
 use Rattle.number.specs.Digits.{dec}
 use Rattle.number.specs.Written.{unsignedDigits, negatedDigits}
 use Rattle.residue.specs.Residues.{isResidues}
-use Rattle.record.specs.declared.spans.Span.{Span}
-use Rattle.record.specs.declared.spans.Part.{Part}
-use Rattle.record.specs.declared.spans.Part.the-variants as Pa
-use Rattle.record.specs.declared.edits.UncertainLengthChange.{UncertainLengthChange}
-use Rattle.record.specs.declared.edits.UncertainLengthChange.the-variants.{None, Unknown, Known}
-use Rattle.record.specs.declared.edits.ProteinEdit.{ProteinEdit}
-use Rattle.record.specs.declared.edits.ProteinEdit.the-variants as Pr
+use Rattle.record.specs.declared.Span.{Span}
+use Rattle.record.specs.declared.Part.{Part}
+use Rattle.record.specs.declared.Part.the-variants as Pa
+use Rattle.record.specs.declared.UncertainLengthChange.{UncertainLengthChange}
+use Rattle.record.specs.declared.UncertainLengthChange.the-variants.{None, Unknown, Known}
+use Rattle.record.specs.declared.ProteinEdit.{ProteinEdit}
+use Rattle.record.specs.declared.ProteinEdit.the-variants as Pr
 use Rattle.grammar.specs.Spans.{part, optionalPart}
 use Rattle.grammar.specs.Contents.{proteinEditContent}
 use Rattle.grammar.specs.Optional.{printOptional}

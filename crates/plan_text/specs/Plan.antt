@@ -4,15 +4,15 @@ use Prim.Native.Char.{code}
 use mathlib.Core.Path.{_≡_, ap}
 use mathlib.Core.List.{List}
 use mathlib.Core.Bool.{Bool, cond}
-use Rattle.record.specs.declared.spans.Span.{Span}
-use Rattle.record.specs.declared.spans.Part.{Part}
-use Rattle.record.specs.declared.spans.Part.the-variants.{Absent, Present}
-use Rattle.record.specs.declared.variant.Kind.{Kind}
-use Rattle.record.specs.declared.variant.Kind.the-variants.{Cds, Genome, Mt, Tx, Prot, Rna}
-use Rattle.record.specs.declared.variant.Header.{Header}
-use Rattle.record.specs.declared.variant.Body.{Body}
-use Rattle.record.specs.declared.variant.Body.the-variants as Bo
-use Rattle.record.specs.declared.variant.HgvsVariant.{HgvsVariant}
+use Rattle.record.specs.declared.Span.{Span}
+use Rattle.record.specs.declared.Part.{Part}
+use Rattle.record.specs.declared.Part.the-variants.{Absent, Present}
+use Rattle.record.specs.declared.Kind.{Kind}
+use Rattle.record.specs.declared.Kind.the-variants.{Cds, Genome, Mt, Tx, Prot, Rna}
+use Rattle.record.specs.declared.Header.{Header}
+use Rattle.record.specs.declared.Body.{Body}
+use Rattle.record.specs.declared.Body.the-variants as Bo
+use Rattle.record.specs.declared.HgvsVariant.{HgvsVariant}
 use Rattle.grammar.specs.Contents.{headerContent}
 use Rattle.headers.specs.Canonical.{canonHeader}
 use Rattle.record_location.specs.declared.AnyBody.{AnyBody}

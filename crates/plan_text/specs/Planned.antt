@@ -7,14 +7,14 @@ use mathlib.Core.Bool.{Bool, true, cond}
 use lib.ListN.{length}
 use Rattle.texts.specs.Ascii.{ascii}
 use Rattle.texts.specs.Tests.{none-some}
-use Rattle.record.specs.declared.spans.Span.{Span}
-use Rattle.record.specs.declared.spans.Part.{Part}
-use Rattle.record.specs.declared.spans.Part.the-variants.{Absent, Present}
-use Rattle.record.specs.declared.variant.Kind.{Kind}
-use Rattle.record.specs.declared.variant.Kind.the-variants.{Cds, Genome, Mt, Tx, Prot, Rna}
-use Rattle.record.specs.declared.variant.Body as Declared
-use Rattle.record.specs.declared.variant.Body.the-variants as Bo
-use Rattle.record.specs.declared.variant.HgvsVariant.{HgvsVariant}
+use Rattle.record.specs.declared.Span.{Span}
+use Rattle.record.specs.declared.Part.{Part}
+use Rattle.record.specs.declared.Part.the-variants.{Absent, Present}
+use Rattle.record.specs.declared.Kind.{Kind}
+use Rattle.record.specs.declared.Kind.the-variants.{Cds, Genome, Mt, Tx, Prot, Rna}
+use Rattle.record.specs.declared.Body as Declared
+use Rattle.record.specs.declared.Body.the-variants as Bo
+use Rattle.record.specs.declared.HgvsVariant.{HgvsVariant}
 use Rattle.grammar.specs.Spans.{part, optionalPart}
 use Rattle.grammar.specs.Shapes.{Both.both}
 use Rattle.grammar.specs.Header.{Header, printGene, printHeader, printKind}

@@ -6,8 +6,8 @@ use mathlib.Core.Option.{none}
 use mathlib.Core.Bool.{Bool, cond}
 use Rattle.texts.specs.Ascii.{ascii}
 use Rattle.texts.specs.Words.{same, oneEach}
-use Rattle.record.specs.declared.variant.Kind.{Kind}
-use Rattle.record.specs.declared.variant.Kind.the-variants.{Cds, Genome, Mt, Tx, Prot, Rna}
+use Rattle.record.specs.declared.Kind.{Kind}
+use Rattle.record.specs.declared.Kind.the-variants.{Cds, Genome, Mt, Tx, Prot, Rna}
 use Rattle.grammar.specs.Header.{printHeader, WfHeader, printKind}
 use Rattle.grammar.specs.Shapes.{Mu, Both.both, printMu}
 use Rattle.grammar.specs.Bodies.{printLocation, WfLocation}

@@ -1,12 +1,12 @@
 -- Document 01, "Numbers given back": the number and place of each case of each answer, and what it carries.
 use Prim.Native.Nat.{ℕ}
-use Rattle.record.specs.declared.variant.HgvsVariant.{HgvsVariant}
-use Rattle.record.specs.declared.answers.ReadAnswer.{ReadAnswer}
-use Rattle.record.specs.declared.answers.ReadAnswer.the-variants as R
-use Rattle.record.specs.declared.answers.WriteAnswer.{WriteAnswer}
-use Rattle.record.specs.declared.answers.WriteAnswer.the-variants as W
-use Rattle.record.specs.declared.answers.WidthAnswer.{WidthAnswer}
-use Rattle.record.specs.declared.answers.WidthAnswer.the-variants as M
+use Rattle.record.specs.declared.HgvsVariant.{HgvsVariant}
+use Rattle.record.specs.declared.ReadAnswer.{ReadAnswer}
+use Rattle.record.specs.declared.ReadAnswer.the-variants as R
+use Rattle.record.specs.declared.WriteAnswer.{WriteAnswer}
+use Rattle.record.specs.declared.WriteAnswer.the-variants as W
+use Rattle.record.specs.declared.WidthAnswer.{WidthAnswer}
+use Rattle.record.specs.declared.WidthAnswer.the-variants as M
 
 -- number 0 with what is given; or a refusal's number and place, and no record, length or width
 pub data Outcome (A : Type 0) : Type 0 where

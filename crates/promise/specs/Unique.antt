@@ -8,15 +8,15 @@ use native.Mathlib.Omega.{arith}
 use lib.Dec.{eqb}
 use lib.ListN.{length, drop}
 use Rattle.texts.specs.Tests.{clash, none-some}
-use Rattle.record.specs.declared.variant.Kind.{Kind}
-use Rattle.record.specs.declared.variant.Kind.the-variants.{Cds, Genome, Mt, Tx, Prot, Rna}
-use Rattle.record.specs.declared.variant.HgvsVariant.{HgvsVariant}
-use Rattle.record.specs.declared.answers.ReadAnswer.{ReadAnswer}
-use Rattle.record.specs.declared.answers.ReadAnswer.the-variants as R
-use Rattle.record.specs.declared.answers.WriteAnswer.{WriteAnswer}
-use Rattle.record.specs.declared.answers.WriteAnswer.the-variants as W
-use Rattle.record.specs.declared.answers.WidthAnswer.{WidthAnswer}
-use Rattle.record.specs.declared.answers.WidthAnswer.the-variants as M
+use Rattle.record.specs.declared.Kind.{Kind}
+use Rattle.record.specs.declared.Kind.the-variants.{Cds, Genome, Mt, Tx, Prot, Rna}
+use Rattle.record.specs.declared.HgvsVariant.{HgvsVariant}
+use Rattle.record.specs.declared.ReadAnswer.{ReadAnswer}
+use Rattle.record.specs.declared.ReadAnswer.the-variants as R
+use Rattle.record.specs.declared.WriteAnswer.{WriteAnswer}
+use Rattle.record.specs.declared.WriteAnswer.the-variants as W
+use Rattle.record.specs.declared.WidthAnswer.{WidthAnswer}
+use Rattle.record.specs.declared.WidthAnswer.the-variants as M
 use Rattle.grammar.specs.Header.{printHeader, WfHeader}
 use Rattle.grammar.specs.Shapes.{Both.both}
 use Rattle.grammar.specs.Bodies.{printLocation, WfLocation}

@@ -6,33 +6,33 @@ use mathlib.Core.Option.{Option, none, some}
 use mathlib.Core.Bool.{Bool, cond}
 use lib.IntN.{ℤ, natAbs, _-ℤ_}
 use lib.Signed.{leZ}
-use Rattle.record.specs.declared.variant.Kind.{Kind}
-use Rattle.record.specs.declared.positions.Offset.{Offset}
-use Rattle.record.specs.declared.positions.Offset.the-variants.{Absent, By}
-use Rattle.record.specs.declared.positions.CdsFrom.{CdsFrom}
-use Rattle.record.specs.declared.positions.CdsFrom.the-variants.{Start, End}
-use Rattle.record.specs.declared.positions.CdsInterval.{CdsInterval}
-use Rattle.record.specs.declared.positions.GenomePos.{GenomePos}
-use Rattle.record.specs.declared.positions.GenomePos.the-variants as G
-use Rattle.record.specs.declared.positions.MtPos.{MtPos}
-use Rattle.record.specs.declared.positions.MtPos.the-variants as M
-use Rattle.record.specs.declared.positions.MuCdsInterval.{MuCdsInterval}
-use Rattle.record.specs.declared.positions.MuCdsInterval.the-variants as MuCds
-use Rattle.record.specs.declared.positions.MuGenomeInterval.{MuGenomeInterval}
-use Rattle.record.specs.declared.positions.MuGenomeInterval.the-variants as MuGenome
-use Rattle.record.specs.declared.positions.MuMtInterval.{MuMtInterval}
-use Rattle.record.specs.declared.positions.MuMtInterval.the-variants as MuMt
-use Rattle.record.specs.declared.positions.MuTxInterval.{MuTxInterval}
-use Rattle.record.specs.declared.positions.MuTxInterval.the-variants as MuTx
-use Rattle.record.specs.declared.positions.MuRnaInterval.{MuRnaInterval}
-use Rattle.record.specs.declared.positions.MuRnaInterval.the-variants as MuRna
-use Rattle.record.specs.declared.positions.MuProtInterval.{MuProtInterval}
-use Rattle.record.specs.declared.positions.MuProtInterval.the-variants as MuProt
-use Rattle.record.specs.declared.variant.ProtLocEdit.{ProtLocEdit}
-use Rattle.record.specs.declared.variant.ProtLocEdit.the-variants.{Ordinary, NoChange, NoChangeUncertain, NoProtein, NoProteinUncertain, Unknown, InitiationUncertain}
-use Rattle.record.specs.declared.variant.Body.{Body}
-use Rattle.record.specs.declared.variant.Body.the-variants as Bo
-use Rattle.record.specs.declared.variant.HgvsVariant.{HgvsVariant}
+use Rattle.record.specs.declared.Kind.{Kind}
+use Rattle.record.specs.declared.Offset.{Offset}
+use Rattle.record.specs.declared.Offset.the-variants.{Absent, By}
+use Rattle.record.specs.declared.CdsFrom.{CdsFrom}
+use Rattle.record.specs.declared.CdsFrom.the-variants.{Start, End}
+use Rattle.record.specs.declared.CdsInterval.{CdsInterval}
+use Rattle.record.specs.declared.GenomePos.{GenomePos}
+use Rattle.record.specs.declared.GenomePos.the-variants as G
+use Rattle.record.specs.declared.MtPos.{MtPos}
+use Rattle.record.specs.declared.MtPos.the-variants as M
+use Rattle.record.specs.declared.MuCdsInterval.{MuCdsInterval}
+use Rattle.record.specs.declared.MuCdsInterval.the-variants as MuCds
+use Rattle.record.specs.declared.MuGenomeInterval.{MuGenomeInterval}
+use Rattle.record.specs.declared.MuGenomeInterval.the-variants as MuGenome
+use Rattle.record.specs.declared.MuMtInterval.{MuMtInterval}
+use Rattle.record.specs.declared.MuMtInterval.the-variants as MuMt
+use Rattle.record.specs.declared.MuTxInterval.{MuTxInterval}
+use Rattle.record.specs.declared.MuTxInterval.the-variants as MuTx
+use Rattle.record.specs.declared.MuRnaInterval.{MuRnaInterval}
+use Rattle.record.specs.declared.MuRnaInterval.the-variants as MuRna
+use Rattle.record.specs.declared.MuProtInterval.{MuProtInterval}
+use Rattle.record.specs.declared.MuProtInterval.the-variants as MuProt
+use Rattle.record.specs.declared.ProtLocEdit.{ProtLocEdit}
+use Rattle.record.specs.declared.ProtLocEdit.the-variants.{Ordinary, NoChange, NoChangeUncertain, NoProtein, NoProteinUncertain, Unknown, InitiationUncertain}
+use Rattle.record.specs.declared.Body.{Body}
+use Rattle.record.specs.declared.Body.the-variants as Bo
+use Rattle.record.specs.declared.HgvsVariant.{HgvsVariant}
 use Rattle.promise.specs.Outcome.{Outcome, Outcome.given, Outcome.refused}
 use Rattle.promise.specs.Writing.{Sound, Unsound}
 

@@ -5,8 +5,8 @@ use mathlib.Core.List.{List, _++_}
 use mathlib.Core.Option.{none}
 use mathlib.Core.Bool.{Bool, true, false}
 use lib.ListN.{length, drop}
-use Rattle.record.specs.declared.variant.Kind.{Kind}
-use Rattle.record.specs.declared.variant.HgvsVariant.{HgvsVariant}
+use Rattle.record.specs.declared.Kind.{Kind}
+use Rattle.record.specs.declared.HgvsVariant.{HgvsVariant}
 use Rattle.grammar.specs.Texts.{Text, print, Wf}
 use Rattle.grammar.specs.Values.{Value}
 use Rattle.grammar.specs.Meaning.{meaning}

@@ -8,8 +8,8 @@ use Rattle.texts.specs.Words.{same}
 use Rattle.number.specs.Reading.{fits}
 use Rattle.number.specs.declared.Sign.the-variants.{Negated}
 use Rattle.residue.specs.Residues.{isResidue}
-use Rattle.record.specs.declared.spans.Span.{Span}
-use Rattle.record.specs.declared.spans.Part.{Part}
+use Rattle.record.specs.declared.Span.{Span}
+use Rattle.record.specs.declared.Part.{Part}
 use Rattle.grammar.specs.Spans.{part, optionalPart}
 use Rattle.protein_edits.specs.Canon.{isOptional}
 

@@ -1,6 +1,6 @@
 // Tests of the residues, the terminal and the number that a protein edit has.
-use record::spans::Part;
-use record::spans::Span;
+use record::Part;
+use record::Span;
 ghost use mathlib.Core.Path.{_≡_};
 ghost use Rattle.alphabet.specs.Cells.{IsTable};
 ghost use Rattle.protein_edit_tests.specs.Tests.{isNegated, isTerminal, isOptionalPart, isSubst};

@@ -7,8 +7,8 @@ use Rattle.texts.specs.Ascii.{ascii}
 use Rattle.texts.specs.Words.{same}
 use Rattle.number.specs.Written.{unsignedDigits, negatedDigits}
 use Rattle.residue.specs.Residues.{isResidue, isResidues}
-use Rattle.record.specs.declared.edits.UncertainLengthChange.{UncertainLengthChange}
-use Rattle.record.specs.declared.edits.UncertainLengthChange.the-variants.{None, Unknown, Known}
+use Rattle.record.specs.declared.UncertainLengthChange.{UncertainLengthChange}
+use Rattle.record.specs.declared.UncertainLengthChange.the-variants.{None, Unknown, Known}
 use Rattle.grammar.specs.ProteinEdits.{Terminal, Terminal.ter, Terminal.x, Terminal.star, Length, Length.counted, Length.unknown, Length.unsaid, Stop, Stop.stop, ExtEnd, ExtEnd.nothing, ExtEnd.later, ExtEnd.earlier, ProteinEdit, ProteinEdit.subst, ProteinEdit.substUnknown, ProteinEdit.equal, ProteinEdit.del, ProteinEdit.dup, ProteinEdit.ins, ProteinEdit.delIns, ProteinEdit.fs, ProteinEdit.ext}
 use Rattle.grammar.specs.Values.{ProteinEditV, ProteinEditV.fsV, ProteinEditV.extV, ProteinEditV.substV, ProteinEditV.delInsV, ProteinEditV.insPV, ProteinEditV.delV, ProteinEditV.dupPV, ProteinEditV.identV}
 use Rattle.lang.specs.Choice.{orNext}

@@ -18,8 +18,8 @@ use Rattle.number.specs.Signs.{saturated-fit}
 use Rattle.number.specs.Written.{unsignedDigits, negatedDigits, unsigned-written, negated-written, unsigned-found, negated-found}
 use Rattle.number.specs.declared.Sign.the-variants.{Plain, Negated}
 use Rattle.residue.specs.Residues.{isResidue}
-use Rattle.record.specs.declared.edits.UncertainLengthChange.{UncertainLengthChange}
-use Rattle.record.specs.declared.edits.UncertainLengthChange.the-variants.{None, Unknown, Known}
+use Rattle.record.specs.declared.UncertainLengthChange.{UncertainLengthChange}
+use Rattle.record.specs.declared.UncertainLengthChange.the-variants.{None, Unknown, Known}
 use Rattle.grammar.specs.Optional.{printOptional, WfOptional}
 use Rattle.grammar.specs.Positions.{Digits}
 use Rattle.grammar.specs.Shapes.{Both, Both.both}

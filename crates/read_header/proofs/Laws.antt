@@ -15,9 +15,9 @@ use Rattle.texts.specs.Tests.{and-false}
 use Rattle.texts.specs.Slices.{tail-part}
 use Rattle.texts.specs.Words.{starts, starts-length}
 use Rattle.alphabet.specs.Letters.{letter, digit, alphanumeric}
-use Rattle.record.specs.declared.spans.Span.{Span}
-use Rattle.record.specs.declared.spans.Part.the-variants.{Absent, Present}
-use Rattle.record.specs.declared.variant.Kind.{Kind}
+use Rattle.record.specs.declared.Span.{Span}
+use Rattle.record.specs.declared.Part.the-variants.{Absent, Present}
+use Rattle.record.specs.declared.Kind.{Kind}
 use Rattle.grammar.specs.Optional.{printOptional, WfOptional}
 use Rattle.grammar.specs.Header.{Accession, Accession.accession, printAccession, printGene, printKind}
 use Rattle.grammar.specs.Records.{span, partOf}

@@ -3,7 +3,7 @@ use Prim.Native.Nat.{ℕ}
 use mathlib.Core.List.{List}
 use mathlib.Core.Option.{Option, none, some}
 use lib.ListN.{length}
-use Rattle.record.specs.declared.variant.Kind.{Kind}
+use Rattle.record.specs.declared.Kind.{Kind}
 use Rattle.grammar.specs.Optional.{printOptional}
 use Rattle.grammar.specs.Header.{Accession, printAccession, Header, printHeader}
 use Rattle.grammar.specs.Records.{headerAt}

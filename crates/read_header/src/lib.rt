@@ -1,8 +1,8 @@
 // Reading the header, and the kind behind it.
 use alphabet::Class;
-use record::spans::Part;
-use record::variant::Header;
-use record::variant::Kind;
+use record::Header;
+use record::Kind;
+use record::Part;
 ghost use mathlib.Core.Path.{_≡_};
 ghost use Prim.Native.Nat.{_+_, _≤_};
 ghost use lib.ListN.{length};

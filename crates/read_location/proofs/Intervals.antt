@@ -15,8 +15,8 @@ use Rattle.texts.specs.Words.{starts, starts-length}
 use Rattle.number.specs.declared.Sign.the-variants.{Plain}
 use Rattle.number.specs.Digits.{val}
 use Rattle.number.specs.Signs.{saturated-fits}
-use Rattle.record.specs.declared.variant.Kind.{Kind}
-use Rattle.record.specs.declared.variant.Kind.the-variants.{Cds, Genome, Mt, Tx, Prot, Rna}
+use Rattle.record.specs.declared.Kind.{Kind}
+use Rattle.record.specs.declared.Kind.the-variants.{Cds, Genome, Mt, Tx, Prot, Rna}
 use Rattle.grammar.specs.Positions as Tree
 use Rattle.grammar.specs.Positions.{Based.based, Genomic.known, Genomic.unknown, Residual.residual, printPosition}
 use Rattle.grammar.specs.Shapes.{Interval.one, Interval.two, Mu.certain}

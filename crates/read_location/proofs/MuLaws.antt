@@ -10,7 +10,7 @@ use Rattle.texts.specs.Ascii.{ascii}
 use Rattle.texts.specs.Slices.{tail, tail-part}
 use Rattle.texts.specs.Words.{starts}
 use Rattle.texts.specs.Brackets.{opening}
-use Rattle.record.specs.declared.variant.Kind.{Kind}
+use Rattle.record.specs.declared.Kind.{Kind}
 use Rattle.grammar.specs.Shapes.{Interval.one, Interval.two, Mu.certain, Mu.uncertain}
 use Rattle.grammar.specs.Bodies as Body
 use Rattle.grammar.specs.Bodies.{Ends, printLocation}

@@ -23,10 +23,10 @@ use Rattle.number.specs.declared.Number.{Number}
 use Rattle.number.specs.Reading.{numberAt}
 use Rattle.residue.specs.Reading.{residueLen}
 use Rattle.residue.specs.Laws.{residue-le}
-use Rattle.record.specs.declared.spans.Span.{Span}
-use Rattle.record.specs.declared.positions.Offset.the-variants.{Absent, By}
-use Rattle.record.specs.declared.variant.Kind.{Kind}
-use Rattle.record.specs.declared.variant.Kind.the-variants.{Cds, Genome, Prot}
+use Rattle.record.specs.declared.Span.{Span}
+use Rattle.record.specs.declared.Offset.the-variants.{Absent, By}
+use Rattle.record.specs.declared.Kind.{Kind}
+use Rattle.record.specs.declared.Kind.the-variants.{Cds, Genome, Prot}
 use Rattle.grammar.specs.Positions as Tree
 use Rattle.grammar.specs.Positions.{Mark.bare, Mark.plus, Mark.minus, Mark.star, Offset, Offset.absent, Offset.ahead, Offset.back, Based.based, Genomic.known, Genomic.unknown, Residual.residual, printMark, printOffset}
 use Rattle.grammar.specs.Meaning.{number, signOf}

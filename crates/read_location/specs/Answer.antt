@@ -10,11 +10,11 @@ use Rattle.texts.specs.Runs.{run, front}
 use Rattle.alphabet.specs.Letters.{digit}
 use Rattle.number.specs.declared.Sign.{Sign}
 use Rattle.number.specs.declared.Sign.the-variants.{Plain}
-use Rattle.record.specs.declared.spans.Span.{Span}
-use Rattle.record.specs.declared.variant.Kind.{Kind}
-use Rattle.record.specs.declared.variant.Kind.the-variants.{Cds, Genome, Mt, Tx, Prot, Rna}
-use Rattle.record.specs.declared.positions.CdsFrom.the-variants.{Start}
-use Rattle.record.specs.declared.positions.Offset.the-variants.{Absent, By}
+use Rattle.record.specs.declared.Span.{Span}
+use Rattle.record.specs.declared.Kind.{Kind}
+use Rattle.record.specs.declared.Kind.the-variants.{Cds, Genome, Mt, Tx, Prot, Rna}
+use Rattle.record.specs.declared.CdsFrom.the-variants.{Start}
+use Rattle.record.specs.declared.Offset.the-variants.{Absent, By}
 use Rattle.grammar.specs.Positions as G
 use Rattle.grammar.specs.Positions.{Offset.absent, Based, Based.based, Genomic, Genomic.known, Genomic.unknown, Residual, Residual.residual, printMark, printOffset, printPosition}
 use Rattle.grammar.specs.Shapes.{Interval.one, Interval.two, Mu.certain, Mu.uncertain}

@@ -7,8 +7,8 @@ use mathlib.Core.Bool.{Bool, true, false, cond}
 use native.Mathlib.Omega.{arith}
 use Rattle.texts.specs.Ascii.{ascii}
 use Rattle.texts.specs.Words.{starts}
-use Rattle.record.specs.declared.variant.Kind.{Kind}
-use Rattle.record.specs.declared.variant.Kind.the-variants.{Cds, Genome, Mt, Tx, Prot, Rna}
+use Rattle.record.specs.declared.Kind.{Kind}
+use Rattle.record.specs.declared.Kind.the-variants.{Cds, Genome, Mt, Tx, Prot, Rna}
 use Rattle.grammar.specs.Positions.{Based}
 use Rattle.location.specs.Parse.{parseBased, parseUnstarred, parseGenomic, parseResidual, parsePosition}
 use Rattle.read_location.specs.declared.Form.{Form}

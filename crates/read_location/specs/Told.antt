@@ -6,7 +6,7 @@ use mathlib.Core.Option.{none, some}
 use mathlib.Core.Bool.{true}
 use native.Mathlib.Omega.{arith}
 use lib.ListN.{length}
-use Rattle.record.specs.declared.variant.Kind.{Kind}
+use Rattle.record.specs.declared.Kind.{Kind}
 use Rattle.grammar.specs.Positions as Tree
 use Rattle.grammar.specs.Positions.{printPosition}
 use Rattle.grammar.specs.Bodies as Body

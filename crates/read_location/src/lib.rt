@@ -1,15 +1,15 @@
 // Reading positions, intervals and locations at the front of a text.
 use number::Sign;
-use record::positions::CdsFrom;
-use record::positions::Offset;
-use record::spans::Span;
-use record::variant::Kind;
+use record::CdsFrom;
+use record::Kind;
+use record::Offset;
+use record::Span;
 use scan::Faults;
 ghost use mathlib.Core.Path.{_≡_};
 ghost use Prim.Native.Nat.{_+_, _≤_};
 ghost use lib.ListN.{length};
 ghost use Rattle.alphabet.specs.Cells.{IsTable};
-ghost use Rattle.record.specs.declared.variant.Kind.the-variants.{Cds, Genome, Mt, Tx, Prot, Rna};
+ghost use Rattle.record.specs.declared.Kind.the-variants.{Cds, Genome, Mt, Tx, Prot, Rna};
 ghost use Rattle.grammar.specs.Positions.{Offset.absent};
 ghost use Rattle.location.specs.Parse.{parseMark, parseOffset, parseBased, parseGenomic, parseResidual, parsePosition};
 ghost use Rattle.location.specs.Languages.{endsLang, locationLang};

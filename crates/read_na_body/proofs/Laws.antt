@@ -8,10 +8,10 @@ use lib.ListN.{length, take, drop, length-append, length-drop}
 use borrow.Author.Tests.{eq-eqb, ne-eqb}
 use Rattle.texts.specs.Slices.{tail-part, tail-at}
 use Rattle.alphabet.specs.Letters.{nucleotide}
-use Rattle.record.specs.declared.variant.Kind.{Kind}
-use Rattle.record.specs.declared.variant.Kind.the-variants.{Cds, Genome, Mt, Tx, Rna}
-use Rattle.record.specs.declared.edits.MuNaEdit.{MuNaEdit}
-use Rattle.record.specs.declared.variant.Body.the-variants as Bo
+use Rattle.record.specs.declared.Kind.{Kind}
+use Rattle.record.specs.declared.Kind.the-variants.{Cds, Genome, Mt, Tx, Rna}
+use Rattle.record.specs.declared.MuNaEdit.{MuNaEdit}
+use Rattle.record.specs.declared.Body.the-variants as Bo
 use Rattle.grammar.specs.Shapes.{Both.both, printMu}
 use Rattle.grammar.specs.NucleotideEdits.{printNaEdit}
 use Rattle.grammar.specs.Bodies.{printLocation, printNaBody}

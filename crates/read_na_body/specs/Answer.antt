@@ -3,12 +3,12 @@ use Prim.Native.Nat.{ℕ, _+_}
 use mathlib.Core.Path.{_≡_, refl}
 use mathlib.Core.Option.{Option, none, some}
 use lib.ListN.{length}
-use Rattle.record.specs.declared.variant.Kind.{Kind}
-use Rattle.record.specs.declared.variant.Kind.the-variants.{Cds, Genome, Mt, Tx, Prot, Rna}
-use Rattle.record.specs.declared.edits.MuNaEdit.{MuNaEdit}
-use Rattle.record.specs.declared.variant.ProtLocEdit.the-variants.{Unknown}
-use Rattle.record.specs.declared.variant.Body as Record
-use Rattle.record.specs.declared.variant.Body.the-variants as Bo
+use Rattle.record.specs.declared.Kind.{Kind}
+use Rattle.record.specs.declared.Kind.the-variants.{Cds, Genome, Mt, Tx, Prot, Rna}
+use Rattle.record.specs.declared.MuNaEdit.{MuNaEdit}
+use Rattle.record.specs.declared.ProtLocEdit.the-variants.{Unknown}
+use Rattle.record.specs.declared.Body as Record
+use Rattle.record.specs.declared.Body.the-variants as Bo
 use Rattle.grammar.specs.Shapes.{Both.both}
 use Rattle.grammar.specs.Bodies.{printLocation, NaBody, Body}
 use Rattle.grammar.specs.Records.{muNaEditAt, bodyAt}

@@ -15,9 +15,9 @@ use Rattle.alphabet.specs.Letters.{digit}
 use Rattle.number.specs.Reading.{numberAt}
 use Rattle.number.specs.declared.Number.{Number}
 use Rattle.number.specs.declared.Sign.the-variants.{Plain}
-use Rattle.record.specs.declared.spans.Span.{Span}
-use Rattle.record.specs.declared.edits.NaEdit as D
-use Rattle.record.specs.declared.edits.NaEdit.the-variants.{RefAlt, NumAlt}
+use Rattle.record.specs.declared.Span.{Span}
+use Rattle.record.specs.declared.NaEdit as D
+use Rattle.record.specs.declared.NaEdit.the-variants.{RefAlt, NumAlt}
 use Rattle.grammar.specs.NucleotideEdits.{NaEdit, NaEdit.equal, NaEdit.swap, NaEdit.delIns, NaEdit.delNumIns, printNaEdit}
 use Rattle.grammar.specs.Meaning.{number}
 use Rattle.grammar.specs.Records.{span, spanOf, naEditAt}

@@ -14,7 +14,7 @@ use Rattle.texts.specs.Runs.{run, front, behind, run-le, front-length}
 use Rattle.texts.specs.Words.{starts, starts-length}
 use Rattle.alphabet.specs.Letters.{digit}
 use Rattle.grammar.specs.NucleotideEdits.{NaEdit, NaEdit.equal, NaEdit.swap, NaEdit.delIns, NaEdit.delNumIns, NaEdit.delNum, NaEdit.del, NaEdit.ins, NaEdit.invNum, NaEdit.inv}
-use Rattle.record.specs.declared.edits.NaEdit as D
+use Rattle.record.specs.declared.NaEdit as D
 use Rattle.scan.specs.declared.Faults.{Faults}
 use Rattle.lang.specs.Choice.{orNext}
 use Rattle.na_edits.specs.Choice.{onWord, on-none, on-some}

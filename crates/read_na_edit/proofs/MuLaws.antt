@@ -11,9 +11,9 @@ use Rattle.texts.specs.Slices.{tail, tail-part}
 use Rattle.texts.specs.Words.{starts}
 use Rattle.texts.specs.Brackets.{opening}
 use Rattle.alphabet.specs.Letters.{nucleotide}
-use Rattle.record.specs.declared.edits.NaEdit as D
-use Rattle.record.specs.declared.edits.MuNaEdit.{MuNaEdit}
-use Rattle.record.specs.declared.edits.MuNaEdit.the-variants.{Certain, Uncertain}
+use Rattle.record.specs.declared.NaEdit as D
+use Rattle.record.specs.declared.MuNaEdit.{MuNaEdit}
+use Rattle.record.specs.declared.MuNaEdit.the-variants.{Certain, Uncertain}
 use Rattle.grammar.specs.Shapes.{Mu, Mu.certain, Mu.uncertain, printMu}
 use Rattle.grammar.specs.NucleotideEdits.{NaEdit, printNaEdit}
 use Rattle.grammar.specs.Records.{naEditAt, muNaEditAt}

@@ -6,8 +6,8 @@ use mathlib.Core.Option.{none, some}
 use native.Mathlib.Omega.{arith}
 use lib.ListN.{length}
 use Rattle.alphabet.specs.Letters.{nucleotide}
-use Rattle.record.specs.declared.edits.NaEdit as Declared
-use Rattle.record.specs.declared.edits.MuNaEdit.{MuNaEdit}
+use Rattle.record.specs.declared.NaEdit as Declared
+use Rattle.record.specs.declared.MuNaEdit.{MuNaEdit}
 use Rattle.grammar.specs.Shapes.{Mu, printMu}
 use Rattle.grammar.specs.NucleotideEdits.{NaEdit, printNaEdit}
 use Rattle.grammar.specs.Records.{naEditAt, muNaEditAt}

@@ -2,8 +2,8 @@
 use alphabet::Class;
 use number::Number;
 use number::Sign;
-use record::edits::MuNaEdit;
-use record::edits::NaEdit;
+use record::MuNaEdit;
+use record::NaEdit;
 use scan::Faults;
 ghost use mathlib.Core.Path.{_≡_};
 ghost use mathlib.Core.Option.{some};

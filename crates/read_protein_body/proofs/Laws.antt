@@ -10,13 +10,13 @@ use borrow.Author.Tests.{eq-eqb, ne-eqb}
 use Rattle.texts.specs.Ascii.{ascii}
 use Rattle.texts.specs.Slices.{tail-part, tail-at, tail-beyond}
 use Rattle.texts.specs.Words.{starts, starts-length, same, same-true, same-starts, same-lengths}
-use Rattle.record.specs.declared.variant.Kind.the-variants.{Prot}
-use Rattle.record.specs.declared.edits.MuProteinEdit.{MuProteinEdit}
-use Rattle.record.specs.declared.edits.MuProteinEdit.the-variants.{Uncertain}
-use Rattle.record.specs.declared.edits.ProteinEdit as Record
-use Rattle.record.specs.declared.variant.ProtLocEdit.{ProtLocEdit}
-use Rattle.record.specs.declared.variant.ProtLocEdit.the-variants.{Ordinary}
-use Rattle.record.specs.declared.variant.Body.the-variants as Bo
+use Rattle.record.specs.declared.Kind.the-variants.{Prot}
+use Rattle.record.specs.declared.MuProteinEdit.{MuProteinEdit}
+use Rattle.record.specs.declared.MuProteinEdit.the-variants.{Uncertain}
+use Rattle.record.specs.declared.ProteinEdit as Record
+use Rattle.record.specs.declared.ProtLocEdit.{ProtLocEdit}
+use Rattle.record.specs.declared.ProtLocEdit.the-variants.{Ordinary}
+use Rattle.record.specs.declared.Body.the-variants as Bo
 use Rattle.grammar.specs.Shapes.{Mu, Mu.certain, Mu.uncertain, Both.both, printMu}
 use Rattle.grammar.specs.ProteinEdits.{ProteinEdit, printProteinEdit}
 use Rattle.grammar.specs.Bodies.{printEnds, ProteinBody, ProteinBody.change, ProteinBody.bracketed, printProteinBody}

@@ -6,9 +6,9 @@ use mathlib.Core.Bool.{cond}
 use lib.ListN.{length, drop}
 use Rattle.texts.specs.Ascii.{ascii}
 use Rattle.texts.specs.Words.{starts}
-use Rattle.record.specs.declared.variant.Kind.the-variants.{Prot}
-use Rattle.record.specs.declared.edits.MuProteinEdit.the-variants.{Uncertain}
-use Rattle.record.specs.declared.variant.ProtLocEdit.the-variants.{Ordinary}
+use Rattle.record.specs.declared.Kind.the-variants.{Prot}
+use Rattle.record.specs.declared.MuProteinEdit.the-variants.{Uncertain}
+use Rattle.record.specs.declared.ProtLocEdit.the-variants.{Ordinary}
 use Rattle.grammar.specs.Shapes.{Mu, printMu}
 use Rattle.grammar.specs.ProteinEdits.{ProteinEdit, printProteinEdit}
 use Rattle.grammar.specs.Bodies.{ProteinBody, printProteinBody}

@@ -21,12 +21,12 @@ use Rattle.number.specs.declared.Number.{Number}
 use Rattle.number.specs.declared.Sign.the-variants.{Plain, Negated}
 use Rattle.residue.specs.Reading.{residueLen}
 use Rattle.residue.specs.Laws.{residue-le}
-use Rattle.record.specs.declared.spans.Span.{Span}
-use Rattle.record.specs.declared.spans.Part.{Part}
-use Rattle.record.specs.declared.spans.Part.the-variants.{Absent, Present}
-use Rattle.record.specs.declared.edits.UncertainLengthChange.the-variants.{None, Unknown, Known}
-use Rattle.record.specs.declared.edits.ProteinEdit as D
-use Rattle.record.specs.declared.edits.ProteinEdit.the-variants.{Fs, Ext}
+use Rattle.record.specs.declared.Span.{Span}
+use Rattle.record.specs.declared.Part.{Part}
+use Rattle.record.specs.declared.Part.the-variants.{Absent, Present}
+use Rattle.record.specs.declared.UncertainLengthChange.the-variants.{None, Unknown, Known}
+use Rattle.record.specs.declared.ProteinEdit as D
+use Rattle.record.specs.declared.ProteinEdit.the-variants.{Fs, Ext}
 use Rattle.grammar.specs.Optional.{printOptional}
 use Rattle.grammar.specs.ProteinEdits.{Terminal, Terminal.ter, Terminal.x, Terminal.star, Stop, Stop.stop, ExtEnd, ExtEnd.earlier, printTerminal, printFsEnd, printExtEnd}
 use Rattle.grammar.specs.Records.{span, partOf}

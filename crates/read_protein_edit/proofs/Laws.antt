@@ -12,9 +12,9 @@ use Rattle.texts.specs.Slices.{tail, tail-part, tail-room}
 use Rattle.texts.specs.Words.{starts, starts-length}
 use Rattle.residue.specs.Reading.{residueLen, residuesLen}
 use Rattle.residue.specs.Laws.{residue-le, residues-le}
-use Rattle.record.specs.declared.spans.Span.{Span}
-use Rattle.record.specs.declared.edits.ProteinEdit as D
-use Rattle.record.specs.declared.edits.ProteinEdit.the-variants.{Subst, DelIns, Ins, Del, Dup, Ident}
+use Rattle.record.specs.declared.Span.{Span}
+use Rattle.record.specs.declared.ProteinEdit as D
+use Rattle.record.specs.declared.ProteinEdit.the-variants.{Subst, DelIns, Ins, Del, Dup, Ident}
 use Rattle.grammar.specs.Optional.{printOptional}
 use Rattle.grammar.specs.ProteinEdits.{printFsEnd, printExtEnd, Stop, ExtEnd, ProteinEdit, ProteinEdit.subst, ProteinEdit.substUnknown, ProteinEdit.equal, ProteinEdit.del, ProteinEdit.dup, ProteinEdit.fs, ProteinEdit.ext, ProteinEdit.ins, ProteinEdit.delIns, printProteinEdit}
 use Rattle.grammar.specs.Records.{span, spanOf, proteinEditAt}

@@ -10,9 +10,9 @@ use Rattle.texts.specs.Ascii.{ascii}
 use Rattle.texts.specs.Slices.{tail, tail-part}
 use Rattle.texts.specs.Words.{starts}
 use Rattle.texts.specs.Brackets.{opening}
-use Rattle.record.specs.declared.edits.ProteinEdit as D
-use Rattle.record.specs.declared.edits.MuProteinEdit.{MuProteinEdit}
-use Rattle.record.specs.declared.edits.MuProteinEdit.the-variants.{Certain, Uncertain}
+use Rattle.record.specs.declared.ProteinEdit as D
+use Rattle.record.specs.declared.MuProteinEdit.{MuProteinEdit}
+use Rattle.record.specs.declared.MuProteinEdit.the-variants.{Certain, Uncertain}
 use Rattle.grammar.specs.Shapes.{Mu, Mu.certain, Mu.uncertain, printMu}
 use Rattle.grammar.specs.ProteinEdits.{ProteinEdit, printProteinEdit}
 use Rattle.grammar.specs.Records.{proteinEditAt, muProteinEditAt}

@@ -10,9 +10,9 @@ use Rattle.grammar.specs.ProteinEdits.{Terminal, Length, Stop, Stop.stop, ExtEn
 use Rattle.grammar.specs.Meaning.{lengthOf}
 use Rattle.grammar.specs.Records.{span, spanOf, fsAt, extAt, proteinEditAt, muProteinEditAt}
 use Rattle.grammar.specs.Numbers.{lengthNumbers, stopNumbers, fsNumbers, extNumbers, proteinEditNumbers, muNumbers}
-use Rattle.record.specs.declared.spans.Part.{Part}
-use Rattle.record.specs.declared.spans.Part.the-variants.{Absent, Present}
-use Rattle.record.specs.declared.edits.UncertainLengthChange.the-variants.{None}
+use Rattle.record.specs.declared.Part.{Part}
+use Rattle.record.specs.declared.Part.the-variants.{Absent, Present}
+use Rattle.record.specs.declared.UncertainLengthChange.the-variants.{None}
 use Rattle.lang.specs.MuCanon.{settledMu}
 use Rattle.scan.specs.Faults.{faults}
 use Rattle.protein_edits.specs.Settled.{settledExtEnd, settledProteinEdit}

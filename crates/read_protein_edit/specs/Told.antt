@@ -5,8 +5,8 @@ use mathlib.Core.List.{List}
 use mathlib.Core.Option.{none, some}
 use native.Mathlib.Omega.{arith}
 use lib.ListN.{length}
-use Rattle.record.specs.declared.edits.ProteinEdit as Declared
-use Rattle.record.specs.declared.edits.MuProteinEdit.{MuProteinEdit}
+use Rattle.record.specs.declared.ProteinEdit as Declared
+use Rattle.record.specs.declared.MuProteinEdit.{MuProteinEdit}
 use Rattle.grammar.specs.Shapes.{Mu, printMu}
 use Rattle.grammar.specs.ProteinEdits.{ProteinEdit, printProteinEdit}
 use Rattle.grammar.specs.Records.{proteinEditAt, muProteinEditAt}

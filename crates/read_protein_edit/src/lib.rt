@@ -1,9 +1,9 @@
 // Reading a protein edit.
 use number::Sign;
-use record::edits::MuProteinEdit;
-use record::edits::ProteinEdit;
-use record::edits::UncertainLengthChange;
-use record::spans::Part;
+use record::MuProteinEdit;
+use record::Part;
+use record::ProteinEdit;
+use record::UncertainLengthChange;
 use scan::Faults;
 ghost use mathlib.Core.Path.{_≡_};
 ghost use Prim.Native.Nat.{_+_, _≤_};

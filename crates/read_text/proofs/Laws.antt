@@ -8,10 +8,10 @@ use native.Mathlib.Omega.{arith}
 use lib.ListN.{length, take, drop, length-append, length-drop}
 use Rattle.texts.specs.Tests.{clash}
 use Rattle.texts.specs.Slices.{tail-part, tail-at}
-use Rattle.record.specs.declared.variant.Kind.{Kind}
-use Rattle.record.specs.declared.variant.Kind.the-variants.{Cds, Genome, Mt, Tx, Prot, Rna}
-use Rattle.record.specs.declared.variant.Header as Record
-use Rattle.record.specs.declared.variant.Body as RecordBody
+use Rattle.record.specs.declared.Kind.{Kind}
+use Rattle.record.specs.declared.Kind.the-variants.{Cds, Genome, Mt, Tx, Prot, Rna}
+use Rattle.record.specs.declared.Header as Record
+use Rattle.record.specs.declared.Body as RecordBody
 use Rattle.grammar.specs.Header.{Header, printHeader, printKind, kind-length}
 use Rattle.grammar.specs.Shapes.{Both.both}
 use Rattle.grammar.specs.Bodies.{Body}

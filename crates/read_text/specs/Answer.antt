@@ -1,8 +1,8 @@
 -- What the reader gives for the tree of a text: its record, and its faults.
 use mathlib.Core.Option.{Option, none, some}
 use mathlib.Core.Bool.{Bool, true, false}
-use Rattle.record.specs.declared.variant.Kind.{Kind}
-use Rattle.record.specs.declared.variant.Kind.the-variants.{Cds, Genome, Mt, Tx, Prot, Rna}
+use Rattle.record.specs.declared.Kind.{Kind}
+use Rattle.record.specs.declared.Kind.the-variants.{Cds, Genome, Mt, Tx, Prot, Rna}
 use Rattle.grammar.specs.Texts.{Text}
 use Rattle.grammar.specs.Records.{recordAt}
 use Rattle.grammar.specs.Numbers.{numbersAt}

@@ -2,8 +2,8 @@
 use read_header::HeaderRead;
 use read_header::KindRead;
 use read_na_body::BodyRead;
-use record::variant::HgvsVariant;
-use record::variant::Kind;
+use record::HgvsVariant;
+use record::Kind;
 use scan::Faults;
 ghost use mathlib.Core.Path.{_≡_};
 ghost use Prim.Native.Nat.{_+_, _≤_};

@@ -3,7 +3,7 @@ use Prim.Native.Nat.{ℕ}
 use mathlib.Core.Path.{_≡_}
 use mathlib.Core.List.{List}
 use mathlib.Core.Bool.{false}
-use Rattle.record.specs.declared.answers.ReadAnswer.{ReadAnswer}
+use Rattle.record.specs.declared.ReadAnswer.{ReadAnswer}
 use Rattle.grammar.specs.Texts.{allLetters}
 use Rattle.na_edits.specs.Alphabet.{alphabets}
 use Rattle.bodies.specs.Settled.{isSettled}

@@ -3,8 +3,8 @@ use Prim.Native.Nat.{ℕ}
 use mathlib.Core.Path.{_≡_, sym, _∙_}
 use mathlib.Core.List.{List}
 use mathlib.Core.Bool.{Bool}
-use Rattle.record.specs.declared.answers.ReadAnswer.{ReadAnswer}
-use Rattle.record.specs.declared.variant.HgvsVariant.{HgvsVariant}
+use Rattle.record.specs.declared.ReadAnswer.{ReadAnswer}
+use Rattle.record.specs.declared.HgvsVariant.{HgvsVariant}
 use Rattle.grammar.specs.Texts.{Text, print, Wf, allLetters}
 use Rattle.grammar.specs.Contents.{content}
 use Rattle.grammar.specs.ContentLaw.{content-is}

@@ -1,8 +1,9 @@
 // Reading any bytes.
 use read_text::TextRead;
-use record::answers::ReadAnswer;
+use record::ReadAnswer;
 ghost use mathlib.Core.Path.{_≡_};
 ghost use Rattle.grammar.specs.Texts.{allLetters};
+ghost use Rattle.record.specs.declared.ReadAnswer.the-variants as ReadAnswer;
 ghost use Rattle.promise.specs.Outcome.{readOutcome};
 ghost use Rattle.promise.specs.Reading.{Reads};
 ghost use Rattle.reader.specs.Answer.{Tells, unsettled};
@@ -13,11 +14,29 @@ pub struct Reading {
     pub settled: bool,
 }
 
-fn refusal(answer: ReadAnswer) -> Reading
-    ensures { λ r. ⌜ r ≡ unsettled answer ⌝ }
+fn too_long() -> Reading
+    ensures { λ r. ⌜ r ≡ unsettled ReadAnswer.TooLong ⌝ }
 {
     Reading {
-        answer,
+        answer: ReadAnswer::TooLong,
+        settled: false,
+    }
+}
+
+fn not_in_grammar() -> Reading
+    ensures { λ r. ⌜ r ≡ unsettled ReadAnswer.NotInGrammar ⌝ }
+{
+    Reading {
+        answer: ReadAnswer::NotInGrammar,
+        settled: false,
+    }
+}
+
+fn does_not_fit(at: usize) -> Reading
+    ensures { λ r. ⌜ r ≡ unsettled (ReadAnswer.DoesNotFit at) ⌝ }
+{
+    Reading {
+        answer: ReadAnswer::DoesNotFit(at),
         settled: false,
     }
 }
@@ -27,15 +46,15 @@ pub fn reading_of(text: &[u8]) -> Reading
     ensures { λ r. ⌜ Tells (now (text .entry)) r ⌝ }
 {
     if 4096 < text.len() {
-        return refusal(ReadAnswer::TooLong);
+        return too_long();
     }
     let table = alphabet::classes();
     let TextRead::Found(v, faults) = read_text::hgvs_variant(&table, text) else {
-        return refusal(ReadAnswer::NotInGrammar);
+        return not_in_grammar();
     };
     let code = faults.code;
     if 1 < code {
-        return refusal(ReadAnswer::DoesNotFit(code - 2));
+        return does_not_fit(code - 2);
     }
     Reading {
         answer: ReadAnswer::Accepted(v),

@@ -1,14 +1,14 @@
 // Which records have every span in their source.
-use record::edits::MuNaEdit;
-use record::edits::MuProteinEdit;
-use record::edits::NaEdit;
-use record::edits::ProteinEdit;
-use record::positions::MuProtInterval;
-use record::positions::ProtInterval;
-use record::spans::Part;
-use record::variant::Body;
-use record::variant::HgvsVariant;
-use record::variant::ProtLocEdit;
+use record::Body;
+use record::HgvsVariant;
+use record::MuNaEdit;
+use record::MuProtInterval;
+use record::MuProteinEdit;
+use record::NaEdit;
+use record::Part;
+use record::ProtInterval;
+use record::ProtLocEdit;
+use record::ProteinEdit;
 ghost use mathlib.Core.Path.{_≡_};
 ghost use mathlib.Core.Bool.{_&&_};
 ghost use Rattle.grammar.specs.Spans.{inside, insideOptional};

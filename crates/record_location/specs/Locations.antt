@@ -2,22 +2,22 @@
 use mathlib.Core.Path.{_≡_, refl}
 use mathlib.Core.Bool.{Bool, true, false}
 use lib.IntN.{ℤ, pos}
-use Rattle.record.specs.declared.variant.Kind.{Kind}
-use Rattle.record.specs.declared.variant.Kind.the-variants.{Cds, Genome, Mt, Tx, Prot, Rna}
-use Rattle.record.specs.declared.variant.Body.{Body}
-use Rattle.record.specs.declared.variant.Body.the-variants as Bo
-use Rattle.record.specs.declared.positions.CdsFrom.{CdsFrom}
-use Rattle.record.specs.declared.positions.CdsFrom.the-variants.{Start}
-use Rattle.record.specs.declared.positions.Offset.{Offset}
-use Rattle.record.specs.declared.positions.Offset.the-variants.{Absent}
-use Rattle.record.specs.declared.positions.GenomePos.the-variants as G
-use Rattle.record.specs.declared.positions.MtPos.the-variants as M
-use Rattle.record.specs.declared.positions.MuCdsInterval.the-variants as MuCds
-use Rattle.record.specs.declared.positions.MuGenomeInterval.the-variants as MuGenome
-use Rattle.record.specs.declared.positions.MuMtInterval.the-variants as MuMt
-use Rattle.record.specs.declared.positions.MuTxInterval.the-variants as MuTx
-use Rattle.record.specs.declared.positions.MuRnaInterval.the-variants as MuRna
-use Rattle.record.specs.declared.positions.MuProtInterval.the-variants as MuProt
+use Rattle.record.specs.declared.Kind.{Kind}
+use Rattle.record.specs.declared.Kind.the-variants.{Cds, Genome, Mt, Tx, Prot, Rna}
+use Rattle.record.specs.declared.Body.{Body}
+use Rattle.record.specs.declared.Body.the-variants as Bo
+use Rattle.record.specs.declared.CdsFrom.{CdsFrom}
+use Rattle.record.specs.declared.CdsFrom.the-variants.{Start}
+use Rattle.record.specs.declared.Offset.{Offset}
+use Rattle.record.specs.declared.Offset.the-variants.{Absent}
+use Rattle.record.specs.declared.GenomePos.the-variants as G
+use Rattle.record.specs.declared.MtPos.the-variants as M
+use Rattle.record.specs.declared.MuCdsInterval.the-variants as MuCds
+use Rattle.record.specs.declared.MuGenomeInterval.the-variants as MuGenome
+use Rattle.record.specs.declared.MuMtInterval.the-variants as MuMt
+use Rattle.record.specs.declared.MuTxInterval.the-variants as MuTx
+use Rattle.record.specs.declared.MuRnaInterval.the-variants as MuRna
+use Rattle.record.specs.declared.MuProtInterval.the-variants as MuProt
 use Rattle.grammar.specs.Records.{span, PositionR, MuIntervalR}
 use Rattle.read_location.specs.declared.Position.{Position}
 use Rattle.read_location.specs.declared.Location.{Location}

@@ -1,27 +1,27 @@
 // The location of a record, of each kind, as a location of any kind; and so its body.
 use read_location::Location;
 use read_location::Position;
-use record::edits::MuNaEdit;
-use record::positions::CdsFrom;
-use record::positions::CdsPos;
-use record::positions::GenomePos;
-use record::positions::MtPos;
-use record::positions::MuCdsInterval;
-use record::positions::MuGenomeInterval;
-use record::positions::MuMtInterval;
-use record::positions::MuProtInterval;
-use record::positions::MuRnaInterval;
-use record::positions::MuTxInterval;
-use record::positions::Offset;
-use record::positions::ProtPos;
-use record::positions::RnaPos;
-use record::positions::TxPos;
-use record::spans::Span;
-use record::variant::Body;
-use record::variant::Kind;
-use record::variant::ProtLocEdit;
+use record::Body;
+use record::CdsFrom;
+use record::CdsPos;
+use record::GenomePos;
+use record::Kind;
+use record::MtPos;
+use record::MuCdsInterval;
+use record::MuGenomeInterval;
+use record::MuMtInterval;
+use record::MuNaEdit;
+use record::MuProtInterval;
+use record::MuRnaInterval;
+use record::MuTxInterval;
+use record::Offset;
+use record::ProtLocEdit;
+use record::ProtPos;
+use record::RnaPos;
+use record::Span;
+use record::TxPos;
 ghost use mathlib.Core.Path.{_≡_};
-ghost use Rattle.record.specs.declared.variant.Kind.the-variants.{Cds, Genome, Mt, Tx, Prot, Rna};
+ghost use Rattle.record.specs.declared.Kind.the-variants.{Cds, Genome, Mt, Tx, Prot, Rna};
 ghost use Rattle.record_location.specs.Locations.{anyPosition, anyLocation, anyBody};
 
 // A body of any nucleotide kind, or of p.

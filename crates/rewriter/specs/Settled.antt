@@ -6,7 +6,7 @@ use mathlib.Core.Option.{some}
 use mathlib.Core.Bool.{true, _&&_}
 use lib.ListN.{length, drop}
 use Rattle.texts.specs.Tests.{and-true}
-use Rattle.record.specs.declared.variant.HgvsVariant.{HgvsVariant}
+use Rattle.record.specs.declared.HgvsVariant.{HgvsVariant}
 use Rattle.grammar.specs.Texts.{print, allLetters}
 use Rattle.grammar.specs.Contents.{content}
 use Rattle.grammar.specs.ContentLaw.{content-is}

@@ -1,6 +1,6 @@
 // Writing the record that a text reads as.
-use record::answers::WriteAnswer;
-use record::variant::HgvsVariant;
+use record::HgvsVariant;
+use record::WriteAnswer;
 ghost use mathlib.Core.Path.{_≡_};
 ghost use Rattle.grammar.specs.Texts.{allLetters};
 ghost use Rattle.na_edits.specs.Alphabet.{alphabets};

@@ -1,6 +1,6 @@
 // Bytes, texts, parts of the source and numbers into lent room. Each gives the place behind what it wrote; where there is too little room, the room's end.
-use record::spans::Part;
-use record::spans::Span;
+use record::Part;
+use record::Span;
 ghost use Prim.Native.Nat.{_≤_};
 ghost use lib.ListN.{length};
 

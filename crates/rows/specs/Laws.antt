@@ -7,7 +7,7 @@ use mathlib.Core.Bool.{Bool, true, false, cond}
 use lib.IntN.{ℤ, pos, negsuc, natAbs}
 use Rattle.number.specs.Digits.{dec}
 use Rattle.number.specs.Written.{unsignedDigits}
-use Rattle.record.specs.declared.spans.Span.{Span}
+use Rattle.record.specs.declared.Span.{Span}
 use Rattle.grammar.specs.Spans.{part}
 use Rattle.lang.specs.Canon.{mapO}
 use Rattle.emit_word.specs.declared.Word.{Word}

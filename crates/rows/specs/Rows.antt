@@ -6,7 +6,7 @@ use mathlib.Core.Bool.{Bool, false, cond}
 use lib.IntN.{ℤ, pos, negsuc}
 use Rattle.number.specs.Reading.{fits}
 use Rattle.number.specs.declared.Sign.the-variants.{Plain}
-use Rattle.record.specs.declared.spans.Span.{Span}
+use Rattle.record.specs.declared.Span.{Span}
 use Rattle.emit_word.specs.declared.Word.{Word}
 use Rattle.emit_word.specs.declared.Word.the-variants.{Empty}
 use Rattle.emit_piece.specs.declared.Mark.the-variants.{Nothing}

@@ -3,7 +3,7 @@ use emit_piece::Amount;
 use emit_piece::Mark;
 use emit_row::Row;
 use emit_word::Word;
-use record::spans::Span;
+use record::Span;
 ghost use mathlib.Core.Path.{_≡_};
 ghost use Rattle.texts.specs.Words.{same};
 ghost use Rattle.rows.specs.Rows.{rowIf, lettersRow, wordRow, wordAlone, isUnsigned};

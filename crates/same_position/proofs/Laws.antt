@@ -2,9 +2,9 @@
 use mathlib.Core.Path.{_≡_, refl}
 use mathlib.Core.Bool.{Bool, true, false, cond}
 use lib.IntN.{ℤ}
-use Rattle.record.specs.declared.variant.Kind.the-variants.{Genome, Mt}
-use Rattle.record.specs.declared.positions.GenomePos.the-variants.{Unknown, At}
-use Rattle.record.specs.declared.positions.MtPos.the-variants as Mts
+use Rattle.record.specs.declared.Kind.the-variants.{Genome, Mt}
+use Rattle.record.specs.declared.GenomePos.the-variants.{Unknown, At}
+use Rattle.record.specs.declared.MtPos.the-variants as Mts
 use Rattle.location.specs.Equal.{eqPosition}
 use Rattle.same_position.specs.Same.{eqGenomic}
 

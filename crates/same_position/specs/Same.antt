@@ -3,7 +3,7 @@ use Prim.Native.Nat.{ℕ}
 use mathlib.Core.List.{List}
 use mathlib.Core.Bool.{Bool, false, cond}
 use lib.IntN.{ℤ}
-use Rattle.record.specs.declared.variant.Kind.{Kind}
+use Rattle.record.specs.declared.Kind.{Kind}
 use Rattle.grammar.specs.Contents.{positionContent}
 use Rattle.location.specs.Equal.{eqℤ, eqPosition}
 use Rattle.read_location.specs.declared.Position.{Position}

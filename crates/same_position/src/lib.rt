@@ -1,8 +1,8 @@
 // Whether two positions are one, spans by the bytes that they name.
 use read_location::Position;
-use record::positions::CdsFrom;
-use record::positions::Offset;
-use record::variant::Kind;
+use record::CdsFrom;
+use record::Kind;
+use record::Offset;
 ghost use mathlib.Core.Path.{_≡_};
 ghost use mathlib.Core.Bool.{_&&_};
 ghost use Rattle.texts.specs.Words.{same};

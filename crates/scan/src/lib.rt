@@ -1,6 +1,6 @@
 // What the readers share: words at the front of a text, spans, and the places of what is wrong.
 use number::Number;
-use record::spans::Span;
+use record::Span;
 ghost use mathlib.Core.Path.{_≡_};
 ghost use Prim.Native.Nat.{_+_, _≤_, _<_, _^_};
 ghost use Rattle.texts.specs.Words.{starts};

@@ -1,6 +1,6 @@
 // The answer to reading a text as a line: the record in the form that oracle/README.md gives, or `! `, number, a blank, place.
-use record::answers::ReadAnswer;
-use record::variant::HgvsVariant;
+use record::HgvsVariant;
+use record::ReadAnswer;
 use show_parts::bodies;
 ghost use Prim.Native.Nat.{_≤_};
 ghost use lib.ListN.{length};

@@ -1,12 +1,12 @@
 // Edits: C or U, and the case with its parts in round brackets.
 use crate::words;
-use record::edits::MuNaEdit;
-use record::edits::MuProteinEdit;
-use record::edits::NaEdit;
-use record::edits::ProteinEdit;
-use record::edits::UncertainLengthChange;
-use record::spans::Part;
-use record::spans::Span;
+use record::MuNaEdit;
+use record::MuProteinEdit;
+use record::NaEdit;
+use record::Part;
+use record::ProteinEdit;
+use record::Span;
+use record::UncertainLengthChange;
 ghost use Prim.Native.Nat.{_≤_};
 ghost use lib.ListN.{length};
 

@@ -2,10 +2,10 @@
 use crate::words;
 use read_location::Location;
 use read_location::Position;
-use record::positions::CdsFrom;
-use record::positions::Offset;
-use record::spans::Span;
-use record::variant::Kind;
+use record::CdsFrom;
+use record::Kind;
+use record::Offset;
+use record::Span;
 ghost use Prim.Native.Nat.{_≤_};
 ghost use lib.ListN.{length};
 

@@ -1,5 +1,5 @@
 // The words of the form: parts of one text, some inside longer ones.
-use record::spans::Span;
+use record::Span;
 ghost use Prim.Native.Nat.{_≤_};
 ghost use lib.ListN.{length};
 

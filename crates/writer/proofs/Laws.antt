@@ -6,9 +6,9 @@ use mathlib.Core.Bool.{Bool, true, false}
 use lib.Dec.{leb}
 use lib.ListN.{length}
 use borrow.Author.Tests.{leb-true, leb-false}
-use Rattle.record.specs.declared.answers.WriteAnswer.{WriteAnswer}
-use Rattle.record.specs.declared.answers.WriteAnswer.the-variants.{TooLong, BadSpan, NoText}
-use Rattle.record.specs.declared.variant.HgvsVariant.{HgvsVariant}
+use Rattle.record.specs.declared.WriteAnswer.{WriteAnswer}
+use Rattle.record.specs.declared.WriteAnswer.the-variants.{TooLong, BadSpan, NoText}
+use Rattle.record.specs.declared.HgvsVariant.{HgvsVariant}
 use Rattle.grammar.specs.Texts.{allLetters}
 use Rattle.grammar.specs.Contents.{content, spansInside}
 use Rattle.promise.specs.Outcome.{writeOutcome, limit}

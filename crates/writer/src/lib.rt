@@ -1,7 +1,7 @@
 // Writing a record into lent room: its shortest text, or the one without the reference.
 use plan_text::TextPlan;
-use record::answers::WriteAnswer;
-use record::variant::HgvsVariant;
+use record::HgvsVariant;
+use record::WriteAnswer;
 ghost use Rattle.grammar.specs.Texts.{allLetters};
 ghost use Rattle.promise.specs.Outcome.{writeOutcome};
 ghost use Rattle.promise.specs.Writing.{Writes, ToWrite};

@@ -2,7 +2,7 @@ use mathlib.Core.Path.{_≡_}
 use mir.Facts.{toZ-ofZ}
 use mir.Syntax.{w32}
 use mir.Val.{SFits}
-use Rattle.record.specs.declared.positions.Offset.the-variants.{Absent}
+use Rattle.record.specs.declared.Offset.the-variants.{Absent}
 use borrow.Author.Needs.{needs}
 use Rattle.body_width.proofs.end_number.Statement.{statement}
 use Rattle.body_width.proofs.end_number.Tie as tie

@@ -1,4 +1,4 @@
-use Rattle.record.specs.declared.variant.Kind.the-variants.{Prot}
+use Rattle.record.specs.declared.Kind.the-variants.{Prot}
 use Rattle.body_width.specs.Widths.{measured}
 use borrow.Author.Needs.{needs}
 use Rattle.body_width.proofs.prot_width.Statement.{statement}

@@ -1,7 +1,7 @@
 use native.Mathlib.Omega.{arith}
 use mathlib.Core.Path.{_≡_, ap, _∙_}
 use lib.ListN.{length}
-use Rattle.record.specs.declared.answers.WriteAnswer.the-variants.{Written}
+use Rattle.record.specs.declared.WriteAnswer.the-variants.{Written}
 use Rattle.draft.specs.Texts.{draftText}
 use Rattle.draft.specs.Laws.{too-long, no-room, written}
 use borrow.Author.Needs.{needs}

@@ -1,4 +1,4 @@
-use Rattle.record.specs.declared.variant.Kind.the-variants.{Genome}
+use Rattle.record.specs.declared.Kind.the-variants.{Genome}
 use Rattle.read_location.specs.Records.{certain-for, bracketed-for}
 use borrow.Author.Needs.{needs}
 use Rattle.location_record.proofs.genome_interval.Statement.{statement}

@@ -1,4 +1,4 @@
-use Rattle.record.specs.declared.variant.Kind.the-variants.{Mt}
+use Rattle.record.specs.declared.Kind.the-variants.{Mt}
 use Rattle.read_location.specs.Records.{certain-for, bracketed-for}
 use borrow.Author.Needs.{needs}
 use Rattle.location_record.proofs.mt_interval.Statement.{statement}

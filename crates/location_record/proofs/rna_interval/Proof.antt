@@ -1,4 +1,4 @@
-use Rattle.record.specs.declared.variant.Kind.the-variants.{Rna}
+use Rattle.record.specs.declared.Kind.the-variants.{Rna}
 use Rattle.read_location.specs.Records.{certain-for, bracketed-for}
 use borrow.Author.Needs.{needs}
 use Rattle.location_record.proofs.rna_interval.Statement.{statement}

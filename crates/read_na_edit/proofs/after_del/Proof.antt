@@ -7,7 +7,7 @@ use Rattle.texts.specs.Ascii.{ascii}
 use Rattle.texts.specs.Runs.{front, behind, front-length}
 use Rattle.alphabet.specs.Letters.{nucleotide}
 use Rattle.alphabet.specs.Classes.{member}
-use Rattle.record.specs.declared.edits.NaEdit.the-variants.{DelRef}
+use Rattle.record.specs.declared.NaEdit.the-variants.{DelRef}
 use Rattle.grammar.specs.NucleotideEdits.{NaEdit.del}
 use Rattle.na_edits.specs.Parse.{inserted}
 use Rattle.scan.specs.Reading.{number-len}

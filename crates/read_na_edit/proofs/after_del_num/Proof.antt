@@ -6,7 +6,7 @@ use lib.ListN.{length}
 use Rattle.texts.specs.Ascii.{ascii}
 use Rattle.texts.specs.Runs.{front, behind}
 use Rattle.alphabet.specs.Letters.{digit, nucleotide}
-use Rattle.record.specs.declared.edits.NaEdit.the-variants.{DelNum}
+use Rattle.record.specs.declared.NaEdit.the-variants.{DelNum}
 use Rattle.grammar.specs.NucleotideEdits.{NaEdit.delNum}
 use Rattle.na_edits.specs.Parse.{inserted}
 use Rattle.scan.specs.Reading.{number-run, number-le}

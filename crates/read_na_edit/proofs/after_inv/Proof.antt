@@ -7,7 +7,7 @@ use Rattle.texts.specs.Ascii.{ascii}
 use Rattle.texts.specs.Runs.{front, front-length}
 use Rattle.alphabet.specs.Letters.{digit, nucleotide}
 use Rattle.alphabet.specs.Classes.{member}
-use Rattle.record.specs.declared.edits.NaEdit.the-variants.{InvRef, InvNum}
+use Rattle.record.specs.declared.NaEdit.the-variants.{InvRef, InvNum}
 use Rattle.grammar.specs.NucleotideEdits.{NaEdit.invNum, NaEdit.inv}
 use Rattle.scan.specs.Reading.{number-len, number-le}
 use Rattle.read_na_edit.proofs.Found.{found-word, found-number}

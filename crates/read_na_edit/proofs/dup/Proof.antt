@@ -9,7 +9,7 @@ use Rattle.texts.specs.Runs.{front, front-length}
 use Rattle.texts.specs.Words.{starts}
 use Rattle.alphabet.specs.Letters.{nucleotide}
 use Rattle.alphabet.specs.Classes.{member}
-use Rattle.record.specs.declared.edits.NaEdit.the-variants.{Dup}
+use Rattle.record.specs.declared.NaEdit.the-variants.{Dup}
 use Rattle.grammar.specs.NucleotideEdits as Tree
 use Rattle.na_edits.specs.Parse.{parseDup}
 use Rattle.read_na_edit.proofs.Found.{found-word}

@@ -5,7 +5,7 @@ use native.Mathlib.Omega.{arith}
 use lib.ListN.{length}
 use Rattle.texts.specs.Ascii.{ascii}
 use Rattle.alphabet.specs.Letters.{nucleotide}
-use Rattle.record.specs.declared.edits.NaEdit.the-variants.{Ins}
+use Rattle.record.specs.declared.NaEdit.the-variants.{Ins}
 use Rattle.grammar.specs.NucleotideEdits as Tree
 use Rattle.na_edits.specs.Parse.{inserted}
 use Rattle.read_na_edit.specs.Answer.{naEditAnswer}

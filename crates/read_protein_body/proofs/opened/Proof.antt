@@ -6,7 +6,7 @@ use lib.ListN.{length, take, drop}
 use Rattle.texts.specs.Ascii.{ascii}
 use Rattle.texts.specs.Words.{starts}
 use Rattle.texts.specs.Slices.{tail-room}
-use Rattle.record.specs.declared.variant.Kind.the-variants.{Prot}
+use Rattle.record.specs.declared.Kind.the-variants.{Prot}
 use Rattle.read_location.specs.Told.{IntervalTold, interval-told, interval-within}
 use Rattle.read_protein_body.proofs.Laws.{opened-none, closed-le, shut-found, brackets-found}
 use borrow.Author.Needs.{needs}

@@ -1,6 +1,6 @@
 use mathlib.Core.Path.{sym, _∙_}
 use native.Mathlib.Omega.{arith}
-use Rattle.record.specs.declared.variant.Kind.the-variants.{Prot}
+use Rattle.record.specs.declared.Kind.the-variants.{Prot}
 use Rattle.read_location.specs.Told.{IntervalTold, interval-told, interval-within}
 use Rattle.texts.specs.Slices.{tail-room}
 use Rattle.read_protein_body.proofs.Laws.{plain-none, plain-found}
