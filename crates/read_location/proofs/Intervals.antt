@@ -25,6 +25,7 @@ use Rattle.grammar.specs.Numbers.{positionNumbers}
 use Rattle.lang.specs.Lang.{within}
 use Rattle.lang.specs.IntervalLang.{parseInterval}
 use Rattle.lang.specs.MuReading as Reading
+use Rattle.scan.specs.Answers.{answered}
 use Rattle.scan.specs.declared.Faults.{Faults}
 use Rattle.scan.specs.Faults.{faults, first, settledIf, faults-append, settled-if}
 use Rattle.location.specs.Parse.{parsePosition}
@@ -59,24 +60,24 @@ number-fits Rna (based m ds o) = saturated-fits (signOf m) (val ds)
 
 module _ (k : Kind) (at : ℕ) (s : List ℕ) where
   pub interval-none : PR.Nothing ≡ positionAnswer k at (parsePosition k s) → Nothing ≡ intervalAnswer k at (endsLang k .parse s)
-  unfolding parseInterval intervalAnswer
+  unfolding parseInterval answered
   interval-none e = rw (position-unread k at s e)
 
   -- where t stands first
   module _ (t : Tree.Position k) (q : parsePosition k s ≡ some t) where
     one-is : starts (ascii "_") (drop (length (printPosition k t)) s) ≡ false
         → Found (intervalOf k true at (one t)) (length (printPosition k t)) (faults (positionNumbers k at t) (settledPosition k t)) ≡ intervalAnswer k at (endsLang k .parse s)
-    unfolding parseInterval intervalAnswer
+    unfolding parseInterval answered
     one-is j = rw (q, j)
 
     module _ (j : starts (ascii "_") (drop (length (printPosition k t)) s) ≡ true) where
       half-is : parsePosition k (drop 1 (drop (length (printPosition k t)) s)) ≡ none → Nothing ≡ intervalAnswer k at (endsLang k .parse s)
-      unfolding parseInterval intervalAnswer
+      unfolding parseInterval answered
       half-is h = rw (q, j, h)
 
       two-is : (u : Tree.Position k) → parsePosition k (drop 1 (drop (length (printPosition k t)) s)) ≡ some u
           → Found (intervalOf k true at (two t u)) (length (printPosition k t) + 1 + length (printPosition k u)) (settledIf (not (eqℤ (numberIn k t) (numberIn k u))) (first (faults (positionNumbers k at t) (settledPosition k t)) (faults (positionNumbers k (at + length (printPosition k t) + 1) u) (settledPosition k u)))) ≡ intervalAnswer k at (endsLang k .parse s)
-      unfolding parseInterval intervalAnswer
+      unfolding parseInterval answered
       two-is u h =
           let l : length (printPosition k t) + 1 + length (printPosition k u) ≡ length (printPosition k t ++ (ascii "_" ++ printPosition k u)) = simp length-append (omega arith) in
           let ms = positionNumbers k at t in
@@ -84,7 +85,7 @@ module _ (k : Kind) (at : ℕ) (s : List ℕ) where
           rw (q, j, h, l, ← faults-append ms ns (settledPosition k t) (settledPosition k u), settled-if (not (eqℤ (numberIn k t) (numberIn k u))) (ms ++ ns) (settledPosition k t && settledPosition k u))
 
 -- what was read first
-module _ {k : Kind} {at : ℕ} {s : List ℕ} {p : Position} {n : ℕ} {f : Faults} (a : PositionTold k at s p n f) where
+module _ (k : Kind) {at : ℕ} {s : List ℕ} {p : Position} {n : ℕ} {f : Faults} (a : PositionTold k at s p n f) where
   pub start-le : n ≤ length s
   start-le = omega (arith, a .long, within (posLang k) s (a .tree) (a .parsed))
 

@@ -32,6 +32,7 @@ use Rattle.grammar.specs.Positions.{Mark.bare, Mark.plus, Mark.minus, Mark.star
 use Rattle.grammar.specs.Meaning.{number, signOf}
 use Rattle.grammar.specs.Records.{span}
 use Rattle.grammar.specs.Numbers.{Numeral.numeral, offsetNumbers}
+use Rattle.scan.specs.Answers.{answered}
 use Rattle.scan.specs.declared.Faults.{Faults}
 use Rattle.scan.specs.Reading.{number-run, number-len, number-le, number-value, number-faults}
 use Rattle.scan.specs.Faults.{faults, none as noFault, ofNumber, first, settledIf, faults-nil, faults-append, settled-only}
@@ -43,7 +44,7 @@ use Rattle.read_location.specs.declared.PositionRead.the-variants.{Nothi
 use Rattle.read_location.specs.declared.Mark.{Mark}
 use Rattle.read_location.specs.declared.OffsetRead.{OffsetRead}
 use Rattle.read_location.specs.Forms.{isBarred, parseBasedFor}
-use Rattle.read_location.specs.Answer.{plainOf, basedOf, foundAs, positionAnswer, markOf, offsetAnswer, offsetBehind}
+use Rattle.read_location.specs.Answer.{plainOf, basedOf, positionAnswer, markOf, offsetAnswer, offsetBehind}
 
 -- ---- marks
 module _ (s : List ℕ) where
@@ -116,7 +117,7 @@ module _ (at : ℕ) (s : List ℕ) where
 based-found : (at : ℕ) (m : Tree.Mark) (ds : List ℕ) (o : Offset)
     → Found (basedOf (based m ds o)) (length (printMark m) + length ds + length (printOffset o)) (settledIf (plainMark m) (first (faults (numeral (at + length (printMark m)) (signOf m) ds ∷ []) true) (faults (offsetNumbers (at + length (printMark m) + length ds) o) true)))
     ≡ positionAnswer Cds at (some (based m ds o))
-unfolding foundAs
+unfolding answered
 based-found at m ds o =
     let l : length (printMark m) + length ds + length (printOffset o) ≡ length (printMark m ++ (ds ++ printOffset o)) = simp length-append (omega arith) in
     let ms = numeral (at + length (printMark m)) (signOf m) ds ∷ [] in
@@ -142,7 +143,7 @@ module _ (at : ℕ) (s : List ℕ) (m : Mark) (em : m ≡ markOf (parseMark s)) 
     based-number = omega (arith, based-mark, number-le (signOf (parseMark s)) y n read, length-drop (length (printMark (parseMark s))) s, ap (λ (x : Mark). x .len) em)
 
     pub based-none : n .len ≡ 0 → Nothing ≡ positionAnswer Cds at (parseBased s)
-    unfolding y parseBased foundAs
+    unfolding y parseBased answered
     based-none z = rw (digits-none none (λ ds. some (based (parseMark s) ds (parseOffset (behind digit y)))) y (sym (number-run (signOf (parseMark s)) y n read) ∙ z))
 
     module _ (z : n .len ≡ 0 → ⊥) (o : OffsetRead) (eo : o ≡ offsetAnswer (at + (m .len + n .len)) (parseOffset (take (length s - (m .len + n .len)) (drop (m .len + n .len) s)))) where
@@ -174,7 +175,7 @@ module _ (at : ℕ) (s : List ℕ) (m : Mark) (em : m ≡ markOf (parseMark s)) 
 
 module _ (k : Kind) (at : ℕ) (s : List ℕ) where
   pub based-barred : isBarred k s ≡ true → Nothing ≡ positionAnswer Cds at (parseBasedFor k s)
-  unfolding parseBasedFor foundAs
+  unfolding parseBasedFor answered
   based-barred e = rw e
 
   pub based-free : isBarred k s ≡ false → positionAnswer Cds at (parseBased s) ≡ positionAnswer Cds at (parseBasedFor k s)
@@ -185,17 +186,17 @@ module _ (k : Kind) (at : ℕ) (s : List ℕ) where
 module _ (at : ℕ) (s : List ℕ) (n : Number) (en : n ≡ numberAt Plain s) where
   pub genomic-unknown : n .len ≡ 0 → starts (ascii "?") s ≡ true → (aa : Span) (p : Position) (f : Faults) → aa ≡ span 0 0 → p ≡ plainOf aa (pos 0) true → f ≡ noFault
       → Found p 1 f ≡ positionAnswer Genome at (parseGenomic s)
-  unfolding parseGenomic foundAs
+  unfolding parseGenomic answered
   genomic-unknown z q aa p f ea ep ef =
       rw (digits-none (cond (starts (ascii "?") s) (some unknown) none) (λ ds. some (known ds)) s (sym (number-run Plain s n en) ∙ z), q, ep, ea, ef, faults-nil)
 
   pub genomic-none : n .len ≡ 0 → starts (ascii "?") s ≡ false → Nothing ≡ positionAnswer Genome at (parseGenomic s)
-  unfolding parseGenomic foundAs
+  unfolding parseGenomic answered
   genomic-none z q = rw (digits-none (cond (starts (ascii "?") s) (some unknown) none) (λ ds. some (known ds)) s (sym (number-run Plain s n en) ∙ z), q)
 
   pub genomic-some : (n .len ≡ 0 → ⊥) → (aa : Span) (p : Position) (f : Faults) → aa ≡ span 0 0 → p ≡ plainOf aa (toZ w32 (ofZ w32 (n .value))) false → f ≡ ofNumber (n .fits) (n .plain) at
       → Found p (n .len) f ≡ positionAnswer Genome at (parseGenomic s)
-  unfolding parseGenomic foundAs
+  unfolding parseGenomic answered
   genomic-some z aa p f ea ep ef =
       rw (digits-some (cond (starts (ascii "?") s) (some unknown) none) (λ ds. some (known ds)) s (λ q. z (number-run Plain s n en ∙ q)), ep, ea, number-value Plain s n en, ef, number-faults Plain s n en at, number-len Plain s n en)
 
@@ -205,7 +206,7 @@ module _ (at : ℕ) (s : List ℕ) (k : ℕ) (ek : k ≡ residueLen s) where
   residual-le = omega (arith, residue-le s)
 
   pub residual-none : k ≡ 0 → Nothing ≡ positionAnswer Prot at (parseResidual s)
-  unfolding parseResidual foundAs
+  unfolding parseResidual answered
   residual-none z = rw (← ek, z)
 
   module _ (n : Number) (en : n ≡ numberAt Plain (take (length s - k) (drop k s))) where
@@ -216,12 +217,12 @@ module _ (at : ℕ) (s : List ℕ) (k : ℕ) (ek : k ≡ residueLen s) where
     residual-number = omega (arith, residual-le, number-le Plain (drop k s) n behind-residue, length-drop k s)
 
     pub residual-bare : (k ≡ 0 → ⊥) → n .len ≡ 0 → Nothing ≡ positionAnswer Prot at (parseResidual s)
-    unfolding parseResidual foundAs
+    unfolding parseResidual answered
     residual-bare zk z = rw (← ek, ne-eqb k 0 zk, digits-none none (λ ds. some (residual (take k s) ds)) (drop k s) (sym (number-run Plain (drop k s) n behind-residue) ∙ z))
 
     pub residual-some : (k ≡ 0 → ⊥) → (n .len ≡ 0 → ⊥) → (aa : Span) (p : Position) (f : Faults) → aa ≡ span at k → p ≡ plainOf aa (toZ w32 (ofZ w32 (n .value))) false → f ≡ ofNumber (n .fits) (n .plain) (at + k)
         → Found p (k + n .len) f ≡ positionAnswer Prot at (parseResidual s)
-    unfolding parseResidual foundAs
+    unfolding parseResidual answered
     residual-some zk z aa p f ea ep ef =
         let y = drop k s in
         let a : length (take k s) ≡ k = length-take-le k s residual-le in

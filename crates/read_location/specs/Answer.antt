@@ -1,7 +1,7 @@
 -- What the routines give for what was found: the position or location with its spans, its length, and its faults.
 use Prim.Native.Nat.{ℕ, _+_}
 use mathlib.Core.List.{List, _∷_, []}
-use mathlib.Core.Option.{Option, none, some}
+use mathlib.Core.Option.{Option}
 use mathlib.Core.Bool.{Bool, true, false, cond}
 use lib.Dec.{eqb}
 use lib.IntN.{ℤ, pos}
@@ -22,8 +22,9 @@ use Rattle.grammar.specs.Bodies as B
 use Rattle.grammar.specs.Bodies.{Ends, printEnds, printLocation}
 use Rattle.grammar.specs.Meaning.{number, signOf, fromOf, offsetOf}
 use Rattle.grammar.specs.Records.{span, spanOf}
-use Rattle.grammar.specs.Numbers.{Numeral, Numeral.numeral, offsetNumbers, positionNumbers, endsNumbers, muNumbers}
+use Rattle.grammar.specs.Numbers.{Numeral.numeral, offsetNumbers, positionNumbers, endsNumbers, muNumbers}
 use Rattle.scan.specs.Faults.{faults}
+use Rattle.scan.specs.Answers.{Account, answered}
 use Rattle.location.specs.Settled.{plainMark, settledPosition, settledEnds, settledLocation}
 use Rattle.read_location.specs.declared.Position.{Position}
 use Rattle.read_location.specs.declared.PositionRead.{PositionRead}
@@ -56,13 +57,11 @@ positionOf Tx at = basedOf
 positionOf Prot at = residualOf at
 positionOf Rna at = basedOf
 
--- what is given for a tree: what it reads as, the length of its text, and its faults
-unfoldable pub foundAs : {A : Type 0} → (A → Position) → (A → List ℕ) → (A → List Numeral) → (A → Bool) → Option A → PositionRead
-foundAs read print numbers settled none = PR.Nothing
-foundAs read print numbers settled (some t) = PR.Found (read t) (length (print t)) (faults (numbers t) (settled t))
+abbrev pub positions : (k : Kind) → Account (G.Position k) Position
+positions k = record { readAt = positionOf k; print = printPosition k; numbersAt = positionNumbers k; settled = settledPosition k }
 
 abbrev pub positionAnswer : (k : Kind) → ℕ → Option (G.Position k) → PositionRead
-positionAnswer k at = foundAs (positionOf k at) (printPosition k) (positionNumbers k at) (settledPosition k)
+positionAnswer k = answered PR.Nothing PR.Found (positions k)
 
 -- ---- the parts of a base
 abbrev pub markOf : G.Mark → Mark
@@ -89,10 +88,14 @@ locationOf k at (uncertain i) = intervalOf k false (at + 1) i
 abbrev pub uncertainOf : Location → Location
 uncertainOf l = record { certain = false; start = l .start; end = l .end }
 
-unfoldable pub intervalAnswer : (k : Kind) → ℕ → Option (Ends k) → LocationRead
-intervalAnswer k at none = LR.Nothing
-intervalAnswer k at (some i) = LR.Found (intervalOf k true at i) (length (printEnds k i)) (faults (endsNumbers k at i) (settledEnds k i))
+abbrev pub intervals : (k : Kind) → Account (Ends k) Location
+intervals k = record { readAt = intervalOf k true; print = printEnds k; numbersAt = endsNumbers k; settled = settledEnds k }
 
-unfoldable pub locationAnswer : (k : Kind) → ℕ → Option (B.Location k) → LocationRead
-locationAnswer k at none = LR.Nothing
-locationAnswer k at (some l) = LR.Found (locationOf k at l) (length (printLocation k l)) (faults (muNumbers (endsNumbers k) at l) (settledLocation k l))
+abbrev pub intervalAnswer : (k : Kind) → ℕ → Option (Ends k) → LocationRead
+intervalAnswer k = answered LR.Nothing LR.Found (intervals k)
+
+abbrev pub locations : (k : Kind) → Account (B.Location k) Location
+locations k = record { readAt = locationOf k; print = printLocation k; numbersAt = muNumbers (endsNumbers k); settled = settledLocation k }
+
+abbrev pub locationAnswer : (k : Kind) → ℕ → Option (B.Location k) → LocationRead
+locationAnswer k = answered LR.Nothing LR.Found (locations k)

@@ -1,84 +1,83 @@
 -- What an answer says: which tree was parsed, and that the answer is the tree's.
-use Prim.Native.Nat.{ℕ, _≤_}
-use mathlib.Core.Path.{_≡_}
+use Prim.Native.Nat.{ℕ, _+_, _≤_}
+use mathlib.Core.Path.{_≡_, refl}
 use mathlib.Core.List.{List}
-use mathlib.Core.Option.{none, some}
-use mathlib.Core.Bool.{true}
+use mathlib.Core.Option.{none}
+use mathlib.Core.Bool.{true, false}
 use native.Mathlib.Omega.{arith}
 use lib.ListN.{length}
 use Rattle.record.specs.declared.Kind.{Kind}
-use Rattle.grammar.specs.Positions as Tree
-use Rattle.grammar.specs.Positions.{printPosition}
-use Rattle.grammar.specs.Bodies as Body
-use Rattle.grammar.specs.Bodies.{Ends, printEnds, printLocation}
-use Rattle.grammar.specs.Numbers.{positionNumbers, endsNumbers, muNumbers}
-use Rattle.lang.specs.Answer.{by-answer}
+use Rattle.grammar.specs.Shapes.{Interval.one, Interval.two}
+use Rattle.grammar.specs.Bodies.{Ends}
+use Rattle.grammar.specs.Numbers.{endsNumbers}
 use Rattle.lang.specs.Lang.{within}
 use Rattle.scan.specs.declared.Faults.{Faults}
-use Rattle.scan.specs.Faults.{faults}
-use Rattle.location.specs.Settled.{settledPosition, settledEnds, settledLocation}
+use Rattle.scan.specs.Answers.{Cases, Told, told, unread}
+use Rattle.scan.specs.MuAnswers.{Bracketed}
+use Rattle.location.specs.Settled.{settledEnds}
 use Rattle.location.specs.Parse.{parsePosition}
 use Rattle.location.specs.Languages.{endsLang, locationLang}
 use Rattle.read_location.specs.declared.Position.{Position}
 use Rattle.read_location.specs.declared.PositionRead.the-variants as PR
 use Rattle.read_location.specs.declared.Location.{Location}
 use Rattle.read_location.specs.declared.LocationRead.the-variants.{Nothing, Found}
-use Rattle.read_location.specs.Answer.{positionOf, foundAs, positionAnswer, intervalOf, intervalAnswer, locationOf, locationAnswer}
+use Rattle.read_location.specs.Answer.{positions, positionAnswer, intervalOf, intervals, intervalAnswer, locationOf, uncertainOf, locations, locationAnswer}
 
-pub record PositionTold (k : Kind) (at : ℕ) (s : List ℕ) (p : Position) (n : ℕ) (f : Faults) : Type 0 where
-  pub tree : Tree.Position k
-  pub parsed : parsePosition k s ≡ some tree
-  pub means : p ≡ positionOf k at tree
-  pub long : n ≡ length (printPosition k tree)
-  pub wrong : f ≡ faults (positionNumbers k at tree) (settledPosition k tree)
+pub position-cases : Cases PR.Nothing PR.Found
+position-cases = record { apart = λ e. let y : _≡_ {A = ℕ} 0 1 = cc in omega arith; same = λ e. (cc, cc, cc) }
 
-pub record IntervalTold (k : Kind) (at : ℕ) (s : List ℕ) (l : Location) (n : ℕ) (f : Faults) : Type 0 where
-  pub tree : Ends k
-  pub parsed : endsLang k .parse s ≡ some tree
-  pub means : l ≡ intervalOf k true at tree
-  pub long : n ≡ length (printEnds k tree)
-  pub wrong : f ≡ faults (endsNumbers k at tree) (settledEnds k tree)
+pub location-cases : Cases Nothing Found
+location-cases = record { apart = λ e. let y : _≡_ {A = ℕ} 0 1 = cc in omega arith; same = λ e. (cc, cc, cc) }
 
-pub record LocationTold (k : Kind) (at : ℕ) (s : List ℕ) (l : Location) (n : ℕ) (f : Faults) : Type 0 where
-  pub tree : Body.Location k
-  pub parsed : locationLang k .parse s ≡ some tree
-  pub means : l ≡ locationOf k at tree
-  pub long : n ≡ length (printLocation k tree)
-  pub wrong : f ≡ faults (muNumbers (endsNumbers k) at tree) (settledLocation k tree)
+pub uncertain-is : (k : Kind) (at : ℕ) (i : Ends k) → uncertainOf (intervalOf k true at i) ≡ intervalOf k false at i
+uncertain-is k at (one p) = refl
+uncertain-is k at (two p q) = refl
+
+abbrev pub bracketed : (k : Kind) → Bracketed (endsLang k)
+bracketed k =
+    record {
+      Value = Location;
+      MuValue = Location;
+      readAt = intervalOf k true;
+      numbersAt = endsNumbers k;
+      settled = settledEnds k;
+      muReadAt = locationOf k;
+      sure = λ l. l;
+      unsure = uncertainOf;
+      read-sure = λ at i. refl;
+      read-unsure = λ at i. uncertain-is k (at + 1) i;
+    }
+
+abbrev pub PositionTold : Kind → ℕ → List ℕ → Position → ℕ → Faults → Type 0
+PositionTold k at s = Told (positions k) at (parsePosition k) s
+
+abbrev pub IntervalTold : Kind → ℕ → List ℕ → Location → ℕ → Faults → Type 0
+IntervalTold k at s = Told (intervals k) at (endsLang k .parse) s
+
+abbrev pub LocationTold : Kind → ℕ → List ℕ → Location → ℕ → Faults → Type 0
+LocationTold k at s = Told (locations k) at (locationLang k .parse) s
 
 module _ (k : Kind) (at : ℕ) (s : List ℕ) where
   pub position-told : (p : Position) (n : ℕ) (f : Faults) → PR.Found p n f ≡ positionAnswer k at (parsePosition k s) → PositionTold k at s p n f
-  unfolding foundAs
-  position-told p n f e =
-      by-answer (positionAnswer k at) (parsePosition k s) e (λ q z. absurd (let y : _≡_ {A = ℕ} 0 1 = cc in omega arith))
-      (λ t q z. record { tree = t; parsed = q; means = cc; long = cc; wrong = cc })
+  position-told p n f = told position-cases (positions k) at (parsePosition k) s
 
   pub position-unread : PR.Nothing ≡ positionAnswer k at (parsePosition k s) → parsePosition k s ≡ none
-  unfolding foundAs
-  position-unread e = by-answer (positionAnswer k at) (parsePosition k s) e (λ q z. q) (λ t q z. absurd (let y : _≡_ {A = ℕ} 0 1 = cc in omega arith))
+  position-unread = unread position-cases (positions k) at (parsePosition k) s
 
   pub interval-told : (l : Location) (n : ℕ) (f : Faults) → Found l n f ≡ intervalAnswer k at (endsLang k .parse s) → IntervalTold k at s l n f
-  unfolding intervalAnswer
-  interval-told l n f e =
-      by-answer (intervalAnswer k at) (endsLang k .parse s) e (λ q z. absurd (let y : _≡_ {A = ℕ} 0 1 = cc in omega arith))
-      (λ t q z. record { tree = t; parsed = q; means = cc; long = cc; wrong = cc })
+  interval-told l n f = told location-cases (intervals k) at (endsLang k .parse) s
 
   pub interval-unread : Nothing ≡ intervalAnswer k at (endsLang k .parse s) → endsLang k .parse s ≡ none
-  unfolding intervalAnswer
-  interval-unread e = by-answer (intervalAnswer k at) (endsLang k .parse s) e (λ q z. q) (λ t q z. absurd (let y : _≡_ {A = ℕ} 0 1 = cc in omega arith))
+  interval-unread = unread location-cases (intervals k) at (endsLang k .parse) s
 
   pub location-told : (l : Location) (n : ℕ) (f : Faults) → Found l n f ≡ locationAnswer k at (locationLang k .parse s) → LocationTold k at s l n f
-  unfolding locationAnswer
-  location-told l n f e =
-      by-answer (locationAnswer k at) (locationLang k .parse s) e (λ q z. absurd (let y : _≡_ {A = ℕ} 0 1 = cc in omega arith))
-      (λ t q z. record { tree = t; parsed = q; means = cc; long = cc; wrong = cc })
+  location-told l n f = told location-cases (locations k) at (locationLang k .parse) s
 
   pub location-unread : Nothing ≡ locationAnswer k at (locationLang k .parse s) → locationLang k .parse s ≡ none
-  unfolding locationAnswer
-  location-unread e = by-answer (locationAnswer k at) (locationLang k .parse s) e (λ q z. q) (λ t q z. absurd (let y : _≡_ {A = ℕ} 0 1 = cc in omega arith))
+  location-unread = unread location-cases (locations k) at (locationLang k .parse) s
 
 -- what was read lies within the text
-module _ {k : Kind} {at : ℕ} {s : List ℕ} {l : Location} {n : ℕ} {f : Faults} where
+module _ (k : Kind) {at : ℕ} {s : List ℕ} {l : Location} {n : ℕ} {f : Faults} where
   pub interval-within : IntervalTold k at s l n f → n ≤ length s
   interval-within a = omega (arith, a .long, within (endsLang k) s (a .tree) (a .parsed))
 

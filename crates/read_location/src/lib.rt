@@ -4,6 +4,7 @@ use record::CdsFrom;
 use record::Kind;
 use record::Offset;
 use record::Span;
+use scan::Ending;
 use scan::Faults;
 ghost use mathlib.Core.Path.{_≡_};
 ghost use Prim.Native.Nat.{_+_, _≤_};
@@ -334,12 +335,9 @@ pub fn location_at(table: &[u8; 256], kind: Kind, s: &[u8], at: usize) -> Locati
     let LocationRead::Found(l, n, faults) = interval_at(table, kind, &s[a..], at + a) else {
         return LocationRead::Nothing;
     };
-    if a == 0 {
-        return LocationRead::Found(l, n, faults);
+    match scan::closing(s, a, n) {
+        Ending::Bare => LocationRead::Found(l, n, faults),
+        Ending::Closed(k) => LocationRead::Found(uncertain(l), k, faults),
+        Ending::Missing => LocationRead::Nothing,
     }
-    let k = a + n;
-    if !scan::begins(&s[k..], b")") {
-        return LocationRead::Nothing;
-    }
-    LocationRead::Found(uncertain(l), k + 1, faults)
 }

@@ -77,7 +77,7 @@ module _ (k : Kind) (at : ℕ) (s : List ℕ) where
       pub edit-le : n + m ≤ length s
       edit-le =
           let h = within (muNaEditLang nucleotide nucleotides) (take (length s - n) (drop n s)) (y .tree) (y .parsed) in
-          omega (arith, y .long, ap length (tail-part n s), length-drop n s, location-within x)
+          omega (arith, y .long, ap length (tail-part n s), length-drop n s, location-within k x)
 
       both-long : length (printNaBody k (both (x .tree) (y .tree))) ≡ n + m
       both-long = length-append (printLocation k (x .tree)) (printMu printNaEdit (y .tree)) ∙ rw (x .long, y .long)

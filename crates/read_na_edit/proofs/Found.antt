@@ -27,11 +27,12 @@ use Rattle.scan.specs.Reading.{number-len, number-value, number-faults}
 use Rattle.scan.specs.declared.Faults.{Faults}
 use Rattle.na_edits.specs.Settled.{settledNaEdit}
 use Rattle.read_na_edit.specs.declared.NaEditRead.the-variants.{Found}
+use Rattle.scan.specs.Answers.{answered}
 use Rattle.read_na_edit.specs.Answer.{naEditAnswer}
 
 module _ (k : ℕ) (t : NaEdit) (r : D.NaEdit) (n : ℕ) (f : Faults) (er : r ≡ naEditAt k t) (en : n ≡ length (printNaEdit t)) where
   found : f ≡ faults (naEditNumbers k t) (settledNaEdit t) → Found r n f ≡ naEditAnswer k (some t)
-  unfolding naEditAnswer
+  unfolding answered
   found ef = rw (er, en, ef)
 
   -- a tree without numbers

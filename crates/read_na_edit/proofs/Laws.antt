@@ -21,6 +21,7 @@ use Rattle.na_edits.specs.Choice.{onWord, on-none, on-some}
 use Rattle.na_edits.specs.Parse.{parseIdent, parseSubst, inserted, afterDelNum, afterDel, afterInv, parseIns}
 use Rattle.read_na_edit.specs.declared.NaEditRead.{NaEditRead}
 use Rattle.read_na_edit.specs.declared.NaEditRead.the-variants.{Nothing, Found}
+use Rattle.scan.specs.Answers.{answered}
 use Rattle.read_na_edit.specs.Answer.{naEditAnswer}
 
 -- ---- parts of the text
@@ -147,13 +148,13 @@ module _ (k : ℕ) (w : List ℕ) (f : List ℕ → NaEdit) (s : List ℕ) where
   word-found l h r e = rw (h, l, ← tail-part 3 s) e
 
   pub word-nothing : starts w s ≡ false → Nothing ≡ naEditAnswer k (onWord w f s)
-  unfolding naEditAnswer
+  unfolding answered
   word-nothing h = rw h
 
 -- ---- the first of two that finds something
 module _ (k : ℕ) (o u : Option NaEdit) (r : NaEditRead) (e : r ≡ naEditAnswer k o) where
   pub or-found : (t : D.NaEdit) (n : ℕ) (f : Faults) → r ≡ Found t n f → r ≡ naEditAnswer k (orNext o u)
-  unfolding naEditAnswer
+  unfolding answered
   or-found t n f h = go o e
     where
       go : (o : Option NaEdit) → r ≡ naEditAnswer k o → r ≡ naEditAnswer k (orNext o u)
@@ -161,7 +162,7 @@ module _ (k : ℕ) (o u : Option NaEdit) (r : NaEditRead) (e : r ≡ naEditAnswe
       go (some t) e = e
 
   pub or-nothing : r ≡ Nothing → naEditAnswer k u ≡ naEditAnswer k (orNext o u)
-  unfolding naEditAnswer
+  unfolding answered
   or-nothing h = go o e
     where
       go : (o : Option NaEdit) → r ≡ naEditAnswer k o → naEditAnswer k u ≡ naEditAnswer k (orNext o u)

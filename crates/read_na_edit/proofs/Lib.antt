@@ -1,3 +1,2 @@
 pub mod Found
 pub mod Laws
-pub mod MuLaws

@@ -4,6 +4,7 @@ use number::Number;
 use number::Sign;
 use record::MuNaEdit;
 use record::NaEdit;
+use scan::Ending;
 use scan::Faults;
 ghost use mathlib.Core.Path.{_≡_};
 ghost use mathlib.Core.Option.{some};
@@ -223,12 +224,9 @@ pub fn mu_na_edit_at(table: &[u8; 256], s: &[u8], at: usize) -> MuNaEditRead
     let NaEditRead::Found(e, n, faults) = na_edit_at(table, &s[a..], at + a) else {
         return MuNaEditRead::Nothing;
     };
-    if a == 0 {
-        return MuNaEditRead::Found(MuNaEdit::Certain(e), n, faults);
+    match scan::closing(s, a, n) {
+        Ending::Bare => MuNaEditRead::Found(MuNaEdit::Certain(e), n, faults),
+        Ending::Closed(k) => MuNaEditRead::Found(MuNaEdit::Uncertain(e), k, faults),
+        Ending::Missing => MuNaEditRead::Nothing,
     }
-    let k = a + n;
-    if !scan::begins(&s[k..], b")") {
-        return MuNaEditRead::Nothing;
-    }
-    MuNaEditRead::Found(MuNaEdit::Uncertain(e), k + 1, faults)
 }

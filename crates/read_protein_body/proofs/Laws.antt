@@ -33,6 +33,7 @@ use Rattle.protein_edits.specs.Settled.{settledProteinEdit}
 use Rattle.bodies.specs.ProteinBodies.{exactBodies, firstExact, closing, parsePlain, parseOpened, parseOrdinary, parseProteinBody}
 use Rattle.bodies.specs.Settled.{settledProteinBody}
 use Rattle.scan.specs.declared.Faults.{Faults}
+use Rattle.scan.specs.Answers.{answered, Cases, Told, told, unread}
 use Rattle.scan.specs.Faults.{faults, first, settledIf, none as noFaults, faults-append, settled-if, settled-none}
 use Rattle.read_location.specs.declared.Location.{Location}
 use Rattle.read_location.specs.declared.LocationRead.the-variants as LR
@@ -48,7 +49,7 @@ use Rattle.read_na_body.specs.Answer.{bodyAnswer}
 use Rattle.read_protein_body.specs.declared.ExactRead.the-variants as ER
 use Rattle.read_protein_body.specs.declared.OrdinaryRead.{OrdinaryRead}
 use Rattle.read_protein_body.specs.declared.OrdinaryRead.the-variants as OR
-use Rattle.read_protein_body.specs.Answer.{exactAnswer, ordinaryAnswer, afterAnswer, insideAnswer}
+use Rattle.read_protein_body.specs.Answer.{exactAnswer, proteinBodies, ordinaryAnswer, afterAnswer, insideAnswer}
 
 -- ---- the texts without location
 pub is-same : (w s : List ℕ) (t : Bool) → length w ≡ length s → t ≡ starts w s → t ≡ same w s
@@ -116,11 +117,11 @@ module _ (at : ℕ) (s : List ℕ) where
 -- ---- the interval, and what stands behind it
 module _ (at : ℕ) (s : List ℕ) where
   pub plain-none : LR.Nothing ≡ intervalAnswer Prot at (endsLang Prot .parse s) → OR.Nothing ≡ ordinaryAnswer at (parsePlain s)
-  unfolding ordinaryAnswer parsePlain
+  unfolding answered parsePlain
   plain-none h = rw (interval-unread Prot at s h)
 
   pub opened-none : LR.Nothing ≡ intervalAnswer Prot (at + 1) (endsLang Prot .parse s) → OR.Nothing ≡ ordinaryAnswer at (parseOpened s)
-  unfolding ordinaryAnswer parseOpened
+  unfolding answered parseOpened
   opened-none h = rw (interval-unread Prot (at + 1) s h)
 
   -- a certain location
@@ -129,7 +130,7 @@ module _ (at : ℕ) (s : List ℕ) where
     behind = tail-at s (x .long)
 
     after-plain : (o : Option (Mu ProteinEdit)) → afterAnswer l n f (at + n) o ≡ ordinaryAnswer at (mapO (λ e. change (both (certain (x .tree)) e)) o)
-    unfolding ordinaryAnswer
+    unfolding answered
     after-plain none = refl
     after-plain (some e) =
         let k : ℕ = length (printEnds Prot (x .tree)) in
@@ -145,11 +146,11 @@ module _ (at : ℕ) (s : List ℕ) where
 -- behind an opening bracket at `at`
 module _ (at : ℕ) (s : List ℕ) {l : Location} {n : ℕ} {f : Faults} (x : IntervalTold Prot (at + 1) s l n f) where
   pub closed-le : starts (ascii ")") (take (length s - n) (drop n s)) ≡ true → n + 1 ≤ length s
-  closed-le e = omega (arith, starts-length (ascii ")") (take (length s - n) (drop n s)) e, ap length (tail-part n s), length-drop n s, interval-within x)
+  closed-le e = omega (arith, starts-length (ascii ")") (take (length s - n) (drop n s)) e, ap length (tail-part n s), length-drop n s, interval-within Prot x)
 
   -- `(`location`)`, then an edit
   after-shut : (u : Location) (g : Faults) → u ≡ uncertainOf l → g ≡ settledIf false f → (o : Option (Mu ProteinEdit)) → afterAnswer u (1 + (n + 1)) g (at + (1 + (n + 1))) o ≡ ordinaryAnswer at (mapO (λ e. change (both (uncertain (x .tree)) e)) o)
-  unfolding ordinaryAnswer
+  unfolding answered
   after-shut u g h eg none = refl
   after-shut u g h eg (some e) =
       let k : ℕ = length (printMu (printEnds Prot) (uncertain (x .tree))) in
@@ -169,7 +170,7 @@ module _ (at : ℕ) (s : List ℕ) {l : Location} {n : ℕ} {f : Faults} (x : In
 
   -- `(`location edit`)`
   inside-closing : (r : List ℕ) (o : Option ProteinEdit) → insideAnswer l n f (at + 1 + n) r o ≡ ordinaryAnswer at (closing (x .tree) r o)
-  unfolding ordinaryAnswer
+  unfolding answered
   inside-closing r none = refl
   inside-closing r (some e) = go (starts (ascii ")") (drop (length (printProteinEdit e)) r))
     where
@@ -238,19 +239,15 @@ all-exact =
     let exact : (b : ProteinBody) → ((k : ℕ) → proteinBodyAt k b ≡ proteinBodyAt 0 b) → ((k : ℕ) → proteinBodyNumbers k b ≡ []) → settledProteinBody b ≡ not (starts (ascii "(") (printProteinBody b)) → Exact b = λ b p n q. record { place = p; numbers = n; settled = q } in
     (exact _ (λ k. refl) (λ k. refl) refl, (exact _ (λ k. refl) (λ k. refl) refl, (exact _ (λ k. refl) (λ k. refl) refl, (exact _ (λ k. refl) (λ k. refl) refl, (exact _ (λ k. refl) (λ k. refl) refl, (exact _ (λ k. refl) (λ k. refl) refl, (exact _ (λ k. refl) (λ k. refl) refl, tt)))))))
 
-pub record OrdinaryTold (at : ℕ) (s : List ℕ) (b : ProtLocEdit) (n : ℕ) (f : Faults) : Type 0 where
-  pub tree : ProteinBody
-  pub parsed : parseOrdinary s ≡ some tree
-  pub means : b ≡ proteinBodyAt at tree
-  pub long : n ≡ length (printProteinBody tree)
-  pub wrong : f ≡ faults (proteinBodyNumbers at tree) (settledProteinBody tree)
+ordinary-cases : Cases OR.Nothing OR.Found
+ordinary-cases = record { apart = λ e. let y : _≡_ {A = ℕ} 0 1 = cc in omega arith; same = λ e. (cc, cc, cc) }
+
+abbrev pub OrdinaryTold : ℕ → List ℕ → ProtLocEdit → ℕ → Faults → Type 0
+OrdinaryTold at s = Told proteinBodies at parseOrdinary s
 
 module _ (at : ℕ) (s : List ℕ) where
   pub ordinary-told : (b : ProtLocEdit) (n : ℕ) (f : Faults) → OR.Found b n f ≡ ordinaryAnswer at (parseOrdinary s) → OrdinaryTold at s b n f
-  unfolding ordinaryAnswer
-  ordinary-told b n f h =
-      by-answer (ordinaryAnswer at) (parseOrdinary s) h (λ q z. absurd (let y : _≡_ {A = ℕ} 0 1 = cc in omega arith))
-      (λ t q z. record { tree = t; parsed = q; means = cc; long = cc; wrong = cc })
+  ordinary-told b n f = told ordinary-cases proteinBodies at parseOrdinary s
 
   pub exact-found : (b : ProtLocEdit) (f w : Faults) (opened : Bool) → ExactTold s b → opened ≡ starts (ascii "(") s → f ≡ noFaults → w ≡ settledIf (not opened) f → BR.Found (Bo.Prot b) w ≡ bodyAnswer Prot at (parseProteinBody s)
   unfolding bodyAnswer parseProteinBody
@@ -264,8 +261,8 @@ module _ (at : ℕ) (s : List ℕ) where
 
   module _ (none-exact : firstExact exactBodies s ≡ none) where
     pub body-none : OR.Nothing ≡ ordinaryAnswer at (parseOrdinary s) → BR.Nothing ≡ bodyAnswer Prot at (parseProteinBody s)
-    unfolding bodyAnswer parseProteinBody ordinaryAnswer
-    body-none h = by-answer (ordinaryAnswer at) (parseOrdinary s) h (λ q z. rw (none-exact, q)) (λ t q z. absurd (let y : _≡_ {A = ℕ} 0 1 = cc in omega arith))
+    unfolding bodyAnswer parseProteinBody
+    body-none h = rw (none-exact, unread ordinary-cases proteinBodies at parseOrdinary s h)
 
     module _ {b : ProtLocEdit} {n : ℕ} {f : Faults} (x : OrdinaryTold at s b n f) where
       pub body-open : (n ≡ length s → ⊥) → BR.Nothing ≡ bodyAnswer Prot at (parseProteinBody s)

@@ -8,6 +8,7 @@ use Rattle.texts.specs.Ascii.{ascii}
 use Rattle.texts.specs.Words.{starts}
 use Rattle.record.specs.declared.Kind.the-variants.{Prot}
 use Rattle.record.specs.declared.MuProteinEdit.the-variants.{Uncertain}
+use Rattle.record.specs.declared.ProtLocEdit.{ProtLocEdit}
 use Rattle.record.specs.declared.ProtLocEdit.the-variants.{Ordinary}
 use Rattle.grammar.specs.Shapes.{Mu, printMu}
 use Rattle.grammar.specs.ProteinEdits.{ProteinEdit, printProteinEdit}
@@ -17,6 +18,7 @@ use Rattle.grammar.specs.Numbers.{muNumbers, proteinEditNumbers, proteinBodyNum
 use Rattle.scan.specs.declared.Faults.{Faults}
 use Rattle.lang.specs.MuCanon.{settledMu}
 use Rattle.scan.specs.Faults.{faults, first}
+use Rattle.scan.specs.Answers.{Account, answered}
 use Rattle.protein_edits.specs.Settled.{settledProteinEdit}
 use Rattle.bodies.specs.Settled.{settledProteinBody}
 use Rattle.read_location.specs.declared.Location.{Location}
@@ -31,9 +33,11 @@ abbrev pub exactAnswer : Option ProteinBody → ExactRead
 exactAnswer none = ER.Nothing
 exactAnswer (some b) = ER.Found (proteinBodyAt 0 b)
 
-unfoldable pub ordinaryAnswer : ℕ → Option ProteinBody → OrdinaryRead
-ordinaryAnswer at none = OR.Nothing
-ordinaryAnswer at (some b) = OR.Found (proteinBodyAt at b) (length (printProteinBody b)) (faults (proteinBodyNumbers at b) (settledProteinBody b))
+abbrev pub proteinBodies : Account ProteinBody ProtLocEdit
+proteinBodies = record { readAt = proteinBodyAt; print = printProteinBody; numbersAt = proteinBodyNumbers; settled = settledProteinBody }
+
+abbrev pub ordinaryAnswer : ℕ → Option ProteinBody → OrdinaryRead
+ordinaryAnswer = answered OR.Nothing OR.Found proteinBodies
 
 -- behind a location l of n bytes with faults f
 abbrev pub afterAnswer : Location → ℕ → Faults → ℕ → Option (Mu ProteinEdit) → OrdinaryRead

@@ -19,6 +19,7 @@ use Rattle.grammar.specs.Optional.{printOptional}
 use Rattle.grammar.specs.ProteinEdits.{printFsEnd, printExtEnd, Stop, ExtEnd, ProteinEdit, ProteinEdit.subst, ProteinEdit.substUnknown, ProteinEdit.equal, ProteinEdit.del, ProteinEdit.dup, ProteinEdit.fs, ProteinEdit.ext, ProteinEdit.ins, ProteinEdit.delIns, printProteinEdit}
 use Rattle.grammar.specs.Records.{span, spanOf, proteinEditAt}
 use Rattle.grammar.specs.Numbers.{proteinEditNumbers}
+use Rattle.scan.specs.Answers.{answered}
 use Rattle.scan.specs.Faults.{none as noFault, notSettled, settledIf, settled-none}
 use Rattle.scan.specs.declared.Faults.{Faults}
 use Rattle.protein_edits.specs.Parse.{bytesOf, stopAt, extEndAt, residuesBehind, insertedAt, wordedAt, parseWith, parse}
@@ -32,7 +33,7 @@ use Rattle.read_protein_edit.proofs.Ends.{bytes-part, bytes-length}
 -- a tree without numbers
 found : (k : ℕ) (t : ProteinEdit) (r : D.ProteinEdit) (n : ℕ) (f : Faults) → r ≡ proteinEditAt k t → n ≡ length (printProteinEdit t) → proteinEditNumbers k t ≡ [] → f ≡ settledIf (settledProteinEdit t) noFault
     → Found r n f ≡ proteinEditAnswer k (some t)
-unfolding proteinEditAnswer
+unfolding answered
 found k t r n f er el en ef = rw (er, el, en, ef, settled-none (settledProteinEdit t))
 
 -- a part of a part
@@ -103,7 +104,7 @@ module _ (k : ℕ) (s : List ℕ) (m : ℕ) (em : m ≡ residuesBehind (ascii "d
         found-dup f i ef = rw (inserted-none (ascii "delins") s m em z, h, inserted-none (ascii "ins") s j ej y, i) (found k dup Dup 3 f refl refl refl ef)
 
         pub found-nothing : starts (ascii "dup") s ≡ false → Nothing ≡ proteinEditAnswer k (wordedAt s)
-        unfolding wordedAt proteinEditAnswer
+        unfolding wordedAt answered
         found-nothing i = rw (inserted-none (ascii "delins") s m em z, h, inserted-none (ascii "ins") s j ej y, i)
 
 -- ---- a residue of n bytes at the front
@@ -127,11 +128,11 @@ module _ (k : ℕ) (s : List ℕ) (n : ℕ) (en : n ≡ residueLen s) where
   word-long w x = rw (length-append, bytes-length n s front-le, length-append) (omega arith)
 
   fs-answer : (e : Option Stop) → fsRead k n e ≡ proteinEditAnswer k (some (fs (bytesOf n s) e))
-  unfolding proteinEditAnswer fsRead
+  unfolding answered fsRead
   fs-answer e = rw (word-long (ascii "fs") (printFsEnd e), bytes-length n s front-le, bytes-part k n s front-le)
 
   ext-answer : (e : ExtEnd) → extRead k n e ≡ proteinEditAnswer k (some (ext (bytesOf n s) e))
-  unfolding proteinEditAnswer extRead
+  unfolding answered extRead
   ext-answer e = rw (word-long (ascii "ext") (printExtEnd e), bytes-length n s front-le, bytes-part k n s front-le)
 
   pub found-fs : (r : ProteinEditRead) → starts (ascii "fs") (tail n s) ≡ true → r ≡ fsRead k n (stopAt (tail 2 (tail n s))) → r ≡ proteinEditAnswer k (parse s)

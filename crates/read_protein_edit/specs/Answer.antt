@@ -12,9 +12,12 @@ use Rattle.grammar.specs.Records.{span, spanOf, fsAt, extAt, proteinEditAt, muP
 use Rattle.grammar.specs.Numbers.{lengthNumbers, stopNumbers, fsNumbers, extNumbers, proteinEditNumbers, muNumbers}
 use Rattle.record.specs.declared.Part.{Part}
 use Rattle.record.specs.declared.Part.the-variants.{Absent, Present}
+use Rattle.record.specs.declared.ProteinEdit as Declared
+use Rattle.record.specs.declared.MuProteinEdit.{MuProteinEdit}
 use Rattle.record.specs.declared.UncertainLengthChange.the-variants.{None}
 use Rattle.lang.specs.MuCanon.{settledMu}
 use Rattle.scan.specs.Faults.{faults}
+use Rattle.scan.specs.Answers.{Account, answered}
 use Rattle.protein_edits.specs.Settled.{settledExtEnd, settledProteinEdit}
 use Rattle.read_protein_edit.specs.declared.ProteinEditRead.{ProteinEditRead}
 use Rattle.read_protein_edit.specs.declared.ProteinEditRead.the-variants.{Nothing, Found}
@@ -23,13 +26,17 @@ use Rattle.read_protein_edit.specs.declared.MuProteinEditRead.the-varian
 use Rattle.read_protein_edit.specs.declared.LengthRead.{LengthRead}
 use Rattle.read_protein_edit.specs.declared.StopRead.{StopRead}
 
-unfoldable pub proteinEditAnswer : ℕ → Option ProteinEdit → ProteinEditRead
-proteinEditAnswer k none = Nothing
-proteinEditAnswer k (some t) = Found (proteinEditAt k t) (length (printProteinEdit t)) (faults (proteinEditNumbers k t) (settledProteinEdit t))
+abbrev pub proteinEdits : Account ProteinEdit Declared.ProteinEdit
+proteinEdits = record { readAt = proteinEditAt; print = printProteinEdit; numbersAt = proteinEditNumbers; settled = settledProteinEdit }
 
-unfoldable pub muProteinEditAnswer : ℕ → Option (Mu ProteinEdit) → MuProteinEditRead
-muProteinEditAnswer k none = Mus.Nothing
-muProteinEditAnswer k (some t) = Mus.Found (muProteinEditAt k t) (length (printMu printProteinEdit t)) (faults (muNumbers proteinEditNumbers k t) (settledMu settledProteinEdit t))
+abbrev pub proteinEditAnswer : ℕ → Option ProteinEdit → ProteinEditRead
+proteinEditAnswer = answered Nothing Found proteinEdits
+
+abbrev pub muProteinEdits : Account (Mu ProteinEdit) MuProteinEdit
+muProteinEdits = record { readAt = muProteinEditAt; print = printMu printProteinEdit; numbersAt = muNumbers proteinEditNumbers; settled = settledMu settledProteinEdit }
+
+abbrev pub muProteinEditAnswer : ℕ → Option (Mu ProteinEdit) → MuProteinEditRead
+muProteinEditAnswer = answered Mus.Nothing Mus.Found muProteinEdits
 
 -- ---- behind `fs` and `ext`
 unfoldable pub terminalLen : Option Terminal → ℕ

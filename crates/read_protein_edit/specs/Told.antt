@@ -1,58 +1,60 @@
 -- What an answer says: which tree was parsed, and that the answer is the tree's.
 use Prim.Native.Nat.{ℕ}
-use mathlib.Core.Path.{_≡_}
+use mathlib.Core.Path.{_≡_, refl}
 use mathlib.Core.List.{List}
-use mathlib.Core.Option.{none, some}
+use mathlib.Core.Option.{none}
 use native.Mathlib.Omega.{arith}
-use lib.ListN.{length}
 use Rattle.record.specs.declared.ProteinEdit as Declared
 use Rattle.record.specs.declared.MuProteinEdit.{MuProteinEdit}
-use Rattle.grammar.specs.Shapes.{Mu, printMu}
-use Rattle.grammar.specs.ProteinEdits.{ProteinEdit, printProteinEdit}
+use Rattle.record.specs.declared.MuProteinEdit.the-variants.{Certain, Uncertain}
 use Rattle.grammar.specs.Records.{proteinEditAt, muProteinEditAt}
-use Rattle.grammar.specs.Numbers.{proteinEditNumbers, muNumbers}
-use Rattle.lang.specs.Answer.{by-answer}
+use Rattle.grammar.specs.Numbers.{proteinEditNumbers}
 use Rattle.scan.specs.declared.Faults.{Faults}
-use Rattle.lang.specs.MuCanon.{settledMu}
-use Rattle.scan.specs.Faults.{faults}
+use Rattle.scan.specs.Answers.{Cases, Told, told, unread}
+use Rattle.scan.specs.MuAnswers.{Bracketed}
 use Rattle.protein_edits.specs.Settled.{settledProteinEdit}
 use Rattle.protein_edits.specs.Parse.{parse}
-use Rattle.protein_edits.specs.Instance.{muProteinEditLang}
+use Rattle.protein_edits.specs.Instance.{proteinEditLang, muProteinEditLang}
 use Rattle.read_protein_edit.specs.declared.ProteinEditRead.the-variants as Edits
 use Rattle.read_protein_edit.specs.declared.MuProteinEditRead.the-variants as Mus
-use Rattle.read_protein_edit.specs.Answer.{proteinEditAnswer, muProteinEditAnswer}
+use Rattle.read_protein_edit.specs.Answer.{proteinEdits, proteinEditAnswer, muProteinEdits, muProteinEditAnswer}
 
-pub record EditTold (at : ℕ) (s : List ℕ) (e : Declared.ProteinEdit) (n : ℕ) (f : Faults) : Type 0 where
-  pub tree : ProteinEdit
-  pub parsed : parse s ≡ some tree
-  pub means : e ≡ proteinEditAt at tree
-  pub long : n ≡ length (printProteinEdit tree)
-  pub wrong : f ≡ faults (proteinEditNumbers at tree) (settledProteinEdit tree)
+pub edit-cases : Cases Edits.Nothing Edits.Found
+edit-cases = record { apart = λ e. let y : _≡_ {A = ℕ} 0 1 = cc in omega arith; same = λ e. (cc, cc, cc) }
 
-pub record MuTold (at : ℕ) (s : List ℕ) (e : MuProteinEdit) (n : ℕ) (f : Faults) : Type 0 where
-  pub tree : Mu ProteinEdit
-  pub parsed : muProteinEditLang .parse s ≡ some tree
-  pub means : e ≡ muProteinEditAt at tree
-  pub long : n ≡ length (printMu printProteinEdit tree)
-  pub wrong : f ≡ faults (muNumbers proteinEditNumbers at tree) (settledMu settledProteinEdit tree)
+pub mu-cases : Cases Mus.Nothing Mus.Found
+mu-cases = record { apart = λ e. let y : _≡_ {A = ℕ} 0 1 = cc in omega arith; same = λ e. (cc, cc, cc) }
+
+abbrev pub bracketed : Bracketed proteinEditLang
+bracketed =
+    record {
+      Value = Declared.ProteinEdit;
+      MuValue = MuProteinEdit;
+      readAt = proteinEditAt;
+      numbersAt = proteinEditNumbers;
+      settled = settledProteinEdit;
+      muReadAt = muProteinEditAt;
+      sure = Certain;
+      unsure = Uncertain;
+      read-sure = λ k t. refl;
+      read-unsure = λ k t. refl;
+    }
+
+abbrev pub EditTold : ℕ → List ℕ → Declared.ProteinEdit → ℕ → Faults → Type 0
+EditTold at s = Told proteinEdits at parse s
+
+abbrev pub MuTold : ℕ → List ℕ → MuProteinEdit → ℕ → Faults → Type 0
+MuTold at s = Told muProteinEdits at (muProteinEditLang .parse) s
 
 module _ (at : ℕ) (s : List ℕ) where
   pub edit-told : (e : Declared.ProteinEdit) (n : ℕ) (f : Faults) → Edits.Found e n f ≡ proteinEditAnswer at (parse s) → EditTold at s e n f
-  unfolding proteinEditAnswer
-  edit-told e n f h =
-      by-answer (proteinEditAnswer at) (parse s) h (λ q z. absurd (let y : _≡_ {A = ℕ} 0 1 = cc in omega arith))
-      (λ t q z. record { tree = t; parsed = q; means = cc; long = cc; wrong = cc })
+  edit-told e n f = told edit-cases proteinEdits at parse s
 
   pub edit-unread : Edits.Nothing ≡ proteinEditAnswer at (parse s) → parse s ≡ none
-  unfolding proteinEditAnswer
-  edit-unread h = by-answer (proteinEditAnswer at) (parse s) h (λ q z. q) (λ t q z. absurd (let y : _≡_ {A = ℕ} 0 1 = cc in omega arith))
+  edit-unread = unread edit-cases proteinEdits at parse s
 
   pub mu-told : (e : MuProteinEdit) (n : ℕ) (f : Faults) → Mus.Found e n f ≡ muProteinEditAnswer at (muProteinEditLang .parse s) → MuTold at s e n f
-  unfolding muProteinEditAnswer
-  mu-told e n f h =
-      by-answer (muProteinEditAnswer at) (muProteinEditLang .parse s) h (λ q z. absurd (let y : _≡_ {A = ℕ} 0 1 = cc in omega arith))
-      (λ t q z. record { tree = t; parsed = q; means = cc; long = cc; wrong = cc })
+  mu-told e n f = told mu-cases muProteinEdits at (muProteinEditLang .parse) s
 
   pub mu-unread : Mus.Nothing ≡ muProteinEditAnswer at (muProteinEditLang .parse s) → muProteinEditLang .parse s ≡ none
-  unfolding muProteinEditAnswer
-  mu-unread h = by-answer (muProteinEditAnswer at) (muProteinEditLang .parse s) h (λ q z. q) (λ t q z. absurd (let y : _≡_ {A = ℕ} 0 1 = cc in omega arith))
+  mu-unread = unread mu-cases muProteinEdits at (muProteinEditLang .parse) s

@@ -4,6 +4,7 @@ use record::MuProteinEdit;
 use record::Part;
 use record::ProteinEdit;
 use record::UncertainLengthChange;
+use scan::Ending;
 use scan::Faults;
 ghost use mathlib.Core.Path.{_≡_};
 ghost use Prim.Native.Nat.{_+_, _≤_};
@@ -262,12 +263,9 @@ pub fn mu_protein_edit_at(table: &[u8; 256], s: &[u8], at: usize) -> MuProteinEd
     let ProteinEditRead::Found(e, n, faults) = protein_edit_at(table, &s[a..], at + a) else {
         return MuProteinEditRead::Nothing;
     };
-    if a == 0 {
-        return MuProteinEditRead::Found(MuProteinEdit::Certain(e), n, faults);
+    match scan::closing(s, a, n) {
+        Ending::Bare => MuProteinEditRead::Found(MuProteinEdit::Certain(e), n, faults),
+        Ending::Closed(k) => MuProteinEditRead::Found(MuProteinEdit::Uncertain(e), k, faults),
+        Ending::Missing => MuProteinEditRead::Nothing,
     }
-    let k = a + n;
-    if !scan::begins(&s[k..], b")") {
-        return MuProteinEditRead::Nothing;
-    }
-    MuProteinEditRead::Found(MuProteinEdit::Uncertain(e), k + 1, faults)
 }

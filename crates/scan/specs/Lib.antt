@@ -1,2 +1,5 @@
 pub mod Faults
 pub mod Reading
+pub mod Answers
+pub mod Closing
+pub mod MuAnswers

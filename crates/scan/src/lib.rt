@@ -3,9 +3,11 @@ use number::Number;
 use record::Span;
 ghost use mathlib.Core.Path.{_≡_};
 ghost use Prim.Native.Nat.{_+_, _≤_, _<_, _^_};
+ghost use lib.ListN.{length};
 ghost use Rattle.texts.specs.Words.{starts};
 ghost use Rattle.texts.specs.Brackets.{opening as openingOf};
 ghost use Rattle.grammar.specs.Records.{span as spanFrom};
+ghost use Rattle.scan.specs.Closing.{closing as closingOf};
 ghost use Rattle.scan.specs.Faults.{none as noFault, notSettled, ofNumber, first, settledIf};
 
 // What is to be said of a part: 0 where its text is settled, which is to say the shortest of its record; 1 where it may not be; and the leftmost place of a number that does not fit, and 2 more. A number is handed on in a register, an enum is not.
@@ -38,6 +40,30 @@ pub fn opening(s: &[u8]) -> usize
         return 1;
     }
     0
+}
+
+// How a part ends that may stand behind an opening bracket.
+pub enum Ending {
+    // no bracket was opened
+    Bare,
+    // the length of the part with its brackets
+    Closed(usize),
+    Missing,
+}
+
+// The part is n bytes long, and the opening bracket before it so many as `opening` says.
+pub fn closing(s: &[u8], opening: usize, n: usize) -> Ending
+    requires { ⌜ opening + n ≤ length (now s) ⌝ }
+    ensures { λ r. ⌜ r ≡ closingOf (now (s .entry)) opening n ⌝ }
+{
+    if opening == 0 {
+        return Ending::Bare;
+    }
+    let k = opening + n;
+    if begins(&s[k..], b")") {
+        return Ending::Closed(k + 1);
+    }
+    Ending::Missing
 }
 
 // n bytes from `at` on.

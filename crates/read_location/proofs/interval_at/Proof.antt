@@ -7,26 +7,30 @@ use Rattle.texts.specs.Slices.{tail-room}
 use Rattle.texts.specs.Ascii.{ascii}
 use Rattle.texts.specs.Words.{starts}
 use borrow.Author.Tests.{not-true, not-false}
+use Rattle.record.specs.declared.Kind.{Kind}
 use Rattle.read_location.specs.Told.{PositionTold, position-told}
 use Rattle.read_location.proofs.Intervals.{interval-none, start-le, interval-one, join-le, interval-half, end-le, interval-two}
 use borrow.Author.Needs.{needs}
 use Rattle.read_location.proofs.interval_at.Statement.{statement}
 use Rattle.read_location.proofs.interval_at.Tie as tie
 
+abbrev kind : tie.After-start → Kind
+kind c = c .before .before .before .before .args .kind
+
 -- the first position
 first : (c : tie.After-start) → PositionTold (c .before .before .before .before .args .kind) (c .before .before .before .before .args .at) (c .before .before .before .before .args .s .now) (c .start .given .0 .0) (c .start .given .0 .1 .0) (c .start .given .0 .1 .1 .0)
-first c = position-told _ _ _ _ _ _ (sym (c .start .given .1) ∙ c .before .before .pos-at .ensures)
+first c = position-told (kind c) _ _ _ _ _ (sym (c .start .given .1) ∙ c .before .before .pos-at .ensures)
 
 -- the bar behind it
 bar : (c : tie.Else1) → starts (ascii "_") (take (length (c .before .before .before .before .before .before .before .before .before .args .s .now) - c .before .before .before .before .before .start .given .0 .1 .0) (drop (c .before .before .before .before .before .start .given .0 .1 .0) (c .before .before .before .before .before .before .before .before .before .args .s .now))) ≡ true
 bar c = sym (c .before .begins .ensures) ∙ not-false (c .before .begins .result) (c .if1 .left)
 
 bar-le : (c : tie.Else1) → c .before .before .before .before .before .start .given .0 .1 .0 + 1 ≤ length (c .before .before .before .before .before .before .before .before .before .args .s .now)
-bar-le c = join-le (first (c .before .before .before .before .before)) (bar c)
+bar-le c = join-le (kind (c .before .before .before .before .before)) (first (c .before .before .before .before .before)) (bar c)
 
 -- the second position
 second : (c : tie.After-end) → PositionTold (c .before .before .before .before .before .before .before .before .before .before .before .before .before .args .kind) (c .before .before .before .before .before .before .before .before .before .before .before .before .before .args .at + (c .before .before .before .before .before .before .before .before .before .start .given .0 .1 .0 + 1)) (take (length (c .before .before .before .before .before .before .before .before .before .before .before .before .before .args .s .now) - (c .before .before .before .before .before .before .before .before .before .start .given .0 .1 .0 + 1)) (drop (c .before .before .before .before .before .before .before .before .before .start .given .0 .1 .0 + 1) (c .before .before .before .before .before .before .before .before .before .before .before .before .before .args .s .now))) (c .end .given .0 .0) (c .end .given .0 .1 .0) (c .end .given .0 .1 .1 .0)
-second c = position-told _ _ _ _ _ _ (sym (c .end .given .1) ∙ c .before .before .pos-at2 .ensures)
+second c = position-told (kind (c .before .before .before .before .before .before .before .before .before)) _ _ _ _ _ (sym (c .end .given .1) ∙ c .before .before .pos-at2 .ensures)
 
 pos-at-requires : tie.Need-pos-at-requires
 pos-at-requires c κs = search needs
@@ -38,13 +42,13 @@ enum-told : tie.Need-enum-told
 enum-told c = search needs
 
 returns : tie.Need-returns
-returns c = interval-none _ _ _ (sym (c .enum-told .given .1) ∙ c .before .before .pos-at .ensures)
+returns c = interval-none (c .before .before .before .before .args .kind) _ _ (sym (c .enum-told .given .1) ∙ c .before .before .pos-at .ensures)
 
 sub-begins : tie.Need-sub-begins
-sub-begins c = start-le (first (c .before))
+sub-begins c = start-le (kind (c .before)) (first (c .before))
 
 part-begins-start : tie.Need-part-begins-start
-part-begins-start c = start-le (first (c .before))
+part-begins-start c = start-le (kind (c .before)) (first (c .before))
 
 part-begins-end : tie.Need-part-begins-end
 part-begins-end c = search needs
@@ -56,7 +60,7 @@ begins-requires : tie.Need-begins-requires
 begins-requires c κs = search needs
 
 returns-2 : tie.Need-returns-2
-returns-2 c = interval-one (first (c .before .before .before .before .before)) (sym (c .before .begins .ensures) ∙ not-true (c .before .begins .result) (c .if1 .taken))
+returns-2 c = interval-one (kind (c .before .before .before .before .before)) (first (c .before .before .before .before .before)) (sym (c .before .begins .ensures) ∙ not-true (c .before .begins .result) (c .if1 .taken))
 
 add-k : tie.Need-add-k
 add-k c = omega (arith, bar-le c)
@@ -83,10 +87,10 @@ enum-told-2 : tie.Need-enum-told-2
 enum-told-2 c = search needs
 
 returns-3 : tie.Need-returns-3
-returns-3 c = interval-half (first (c .before .before .before .before .before .before .before .before .before)) (bar (c .before .before .before .before)) (sym (c .enum-told2 .given .1) ∙ c .before .before .pos-at2 .ensures)
+returns-3 c = interval-half (kind (c .before .before .before .before .before .before .before .before .before)) (first (c .before .before .before .before .before .before .before .before .before)) (bar (c .before .before .before .before)) (sym (c .enum-told2 .given .1) ∙ c .before .before .pos-at2 .ensures)
 
 add-t16 : tie.Need-add-t16
-add-t16 c = omega (arith, end-le (first (c .before .before .before .before .before .before .before .before .before .before)) (bar (c .before .before .before .before .before)) (second (c .before)))
+add-t16 c = omega (arith, end-le (kind (c .before .before .before .before .before .before .before .before .before .before)) (first (c .before .before .before .before .before .before .before .before .before .before)) (bar (c .before .before .before .before .before)) (second (c .before)))
 
 leftmost-requires : tie.Need-leftmost-requires
 leftmost-requires c κs = search needs
@@ -98,7 +102,7 @@ returns-4 : tie.Need-returns-4
 returns-4 c =
     let e = c .before .before .before .before .before .before in
     let b = e .before .before .before .before .before in
-    interval-two (first (b .before .before .before .before .before)) (bar b) (second (e .before)) _ _ (c .before .leftmost .ensures) (c .settled-if .ensures)
+    interval-two (kind (b .before .before .before .before .before)) (first (b .before .before .before .before .before)) (bar b) (second (e .before)) _ _ (c .before .leftmost .ensures) (c .settled-if .ensures)
 
 pub interval-at-spec : {M : Type 1} → statement M
 interval-at-spec =

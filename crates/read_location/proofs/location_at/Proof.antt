@@ -4,13 +4,14 @@ use mathlib.Core.Path.{_≡_, sym, _∙_}
 use native.Mathlib.Omega.{arith}
 use lib.ListN.{length}
 use borrow.Author.Needs.{needs}
-use borrow.Author.Tests.{not-true, not-false}
 use Rattle.texts.specs.Slices.{tail, tail-room}
 use Rattle.texts.specs.Brackets.{opening-le}
+use Rattle.scan.specs.MuAnswers.{mu-none, mu-le, mu-bare, mu-closed, mu-missing}
+use Rattle.record.specs.declared.Kind.{Kind}
 use Rattle.location.specs.Languages.{endsLang}
-use Rattle.read_location.specs.declared.LocationRead.the-variants.{Found}
+use Rattle.read_location.specs.declared.LocationRead.the-variants.{Nothing, Found}
 use Rattle.read_location.specs.Answer.{intervalAnswer}
-use Rattle.read_location.proofs.MuLaws.{mu-none, mu-le, mu-bare, mu-room, mu-shut, mu-left}
+use Rattle.read_location.specs.Told.{location-cases, bracketed}
 use Rattle.read_location.proofs.location_at.Statement.{statement}
 use Rattle.read_location.proofs.location_at.Tie as tie
 
@@ -18,12 +19,12 @@ use Rattle.read_location.proofs.location_at.Tie as tie
 bracket-le : (c : tie.After-opening) → c .opening .result ≤ length (c .before .before .args .s .now)
 bracket-le c = omega (arith, c .opening .ensures, opening-le (c .before .before .args .s .now))
 
--- what was read behind it, and that it lies within the text
+abbrev kind : tie.After-opening → Kind
+kind c = c .before .before .args .kind
+
+-- what was read behind it
 read : (c : tie.After-l) → Found (c .l .given .0 .0) (c .l .given .0 .1 .0) (c .l .given .0 .1 .1 .0) ≡ intervalAnswer (c .before .before .before .before .before .before .args .kind) (c .before .before .before .before .before .before .args .at + c .before .before .before .before .opening .result) (endsLang (c .before .before .before .before .before .before .args .kind) .parse (tail (c .before .before .before .before .opening .result) (c .before .before .before .before .before .before .args .s .now)))
 read c = sym (c .l .given .1) ∙ c .before .before .interval-at .ensures
-
-read-le : (c : tie.After-l) → c .before .before .before .before .opening .result + c .l .given .0 .1 .0 ≤ length (c .before .before .before .before .before .before .args .s .now)
-read-le c = mu-le _ _ _ _ (c .before .before .before .before .opening .ensures) _ _ _ (read c)
 
 opening-requires : tie.Need-opening-requires
 opening-requires c κs = search needs
@@ -52,52 +53,41 @@ enum-told c = search needs
 returns : tie.Need-returns
 returns c =
     let r = c .before .before in
-    mu-none _ _ _ _ (r .before .before .opening .ensures) (sym (c .enum-told .given .1) ∙ r .interval-at .ensures)
+    mu-none (bracketed (kind (r .before .before))) location-cases _ _ _ _ _ (r .before .before .opening .ensures) (sym (c .enum-told .given .1) ∙ r .interval-at .ensures)
 
-returns-2 : tie.Need-returns-2
-returns-2 c =
-    let e = c .before .before in
-    mu-bare _ _ _ _ (e .before .before .before .before .opening .ensures) _ _ _ (read e) (c .if1 .taken)
+closing-requires : tie.Need-closing-requires
+closing-requires c κs = mu-le (bracketed (kind (c .before .before .before .before .before))) location-cases Nothing Found _ _ _ (c .before .before .before .before .before .opening .ensures) _ _ _ (read (c .before))
 
-add-k : tie.Need-add-k
-add-k c = omega (arith, read-le (c .before .before))
+enum-told-2 : tie.Need-enum-told-2
+enum-told-2 c = search needs
 
-sub-begins : tie.Need-sub-begins
-sub-begins c = read-le (c .before .before)
-
-part-begins-start : tie.Need-part-begins-start
-part-begins-start c = read-le (c .before .before)
-
-part-begins-end : tie.Need-part-begins-end
-part-begins-end c = search needs
-
-slice-aggregate-begins : tie.Need-slice-aggregate-begins
-slice-aggregate-begins c = search needs
-
-begins-requires : tie.Need-begins-requires
-begins-requires c κs = search needs
-
-returns-3 : tie.Need-returns-3
-returns-3 c =
-    let l = c .before .before .before .before in
-    let e = l .before .before in
-    mu-left _ _ _ _ (e .before .before .before .before .opening .ensures) _ _ _ (read e) (l .if1 .left) (sym (c .before .begins .ensures) ∙ not-true (c .before .begins .result) (c .if2 .taken))
+enum-known-k : tie.Need-enum-known-k
+enum-known-k c = search needs
 
 uncertain-requires : tie.Need-uncertain-requires
 uncertain-requires c κs = search needs
 
-add-t16 : tie.Need-add-t16
-add-t16 c =
-    let s = c .before in
-    let e = s .before .before .before .before .before .before in
-    omega (arith, mu-room _ _ _ _ (e .before .before .before .before .opening .ensures) _ _ _ (read e) (sym (s .before .begins .ensures) ∙ not-false (s .before .begins .result) (s .if2 .left)))
+enum-told-3 : tie.Need-enum-told-3
+enum-told-3 c = search needs
+
+returns-2 : tie.Need-returns-2
+returns-2 c =
+    let a = c .before .before in
+    let e = a .before .before in
+    mu-bare (bracketed (kind (e .before .before .before .before))) location-cases _ _ _ _ _ (e .before .before .before .before .opening .ensures) _ _ _ (read e) (sym (c .enum-told2 .given .1) ∙ a .closing .ensures)
+
+returns-3 : tie.Need-returns-3
+returns-3 c =
+    let a = c .before .before .before .before in
+    let e = a .before .before in
+    rw (c .uncertain .ensures)
+    (mu-closed (bracketed (kind (e .before .before .before .before))) location-cases _ _ _ _ _ (e .before .before .before .before .opening .ensures) _ _ _ (read e) _ (sym (c .before .before .k .given .1) ∙ a .closing .ensures))
 
 returns-4 : tie.Need-returns-4
 returns-4 c =
-    let s = c .before in
-    let l = s .before .before .before .before in
-    let e = l .before .before in
-    mu-shut _ _ _ _ (e .before .before .before .before .opening .ensures) _ _ _ (read e) (l .if1 .left) _ (c .uncertain .ensures) (sym (s .before .begins .ensures) ∙ not-false (s .before .begins .result) (s .if2 .left))
+    let a = c .before .before in
+    let e = a .before .before in
+    mu-missing (bracketed (kind (e .before .before .before .before))) location-cases _ _ _ _ _ (e .before .before .before .before .opening .ensures) _ _ _ (read e) (sym (c .enum-told3 .given .1) ∙ a .closing .ensures)
 
 pub location-at-spec : {M : Type 1} → statement M
 location-at-spec =
@@ -112,14 +102,11 @@ location-at-spec =
     enum-known-l
     enum-told
     returns
-    returns-2
-    add-k
-    sub-begins
-    part-begins-start
-    part-begins-end
-    slice-aggregate-begins
-    begins-requires
-    returns-3
+    closing-requires
+    enum-told-2
+    enum-known-k
     uncertain-requires
-    add-t16
+    enum-told-3
+    returns-2
+    returns-3
     returns-4)

@@ -3,6 +3,7 @@ use mathlib.Core.Path.{sym, _∙_}
 use native.Mathlib.Omega.{arith}
 use lib.ListN.{length, take, drop}
 use Rattle.texts.specs.Slices.{tail-room}
+use Rattle.record.specs.declared.Kind.{Kind}
 use Rattle.read_location.specs.Told.{LocationTold, location-told, location-unread, location-within}
 use Rattle.read_na_edit.specs.Told.{MuTold, mu-told, mu-unread}
 use Rattle.read_na_body.proofs.Laws.{no-location, no-edit, edit-le, not-ended, body-found}
@@ -10,9 +11,12 @@ use borrow.Author.Needs.{needs}
 use Rattle.read_na_body.proofs.na_body.Statement.{statement}
 use Rattle.read_na_body.proofs.na_body.Tie as tie
 
+abbrev kind : tie.After-l → Kind
+kind c = c .before .before .before .before .args .kind
+
 -- the location at the front, and the edit behind it
 loc : (c : tie.After-l) → LocationTold (c .before .before .before .before .args .kind) (c .before .before .before .before .args .at) (c .before .before .before .before .args .s .now) (c .l .given .0 .0) (c .l .given .0 .1 .0) (c .l .given .0 .1 .1 .0)
-loc c = location-told _ _ _ _ _ _ (sym (c .l .given .1) ∙ c .before .before .location-at .ensures)
+loc c = location-told (kind c) _ _ _ _ _ (sym (c .l .given .1) ∙ c .before .before .location-at .ensures)
 
 edit : (c : tie.After-edit) → MuTold (c .before .before .before .before .before .before .before .before .before .args .at + c .before .before .before .before .before .l .given .0 .1 .0) (take (length (c .before .before .before .before .before .before .before .before .before .args .s .now) - c .before .before .before .before .before .l .given .0 .1 .0) (drop (c .before .before .before .before .before .l .given .0 .1 .0) (c .before .before .before .before .before .before .before .before .before .args .s .now))) (c .edit .given .0 .0) (c .edit .given .0 .1 .0) (c .edit .given .0 .1 .1 .0)
 edit c = mu-told _ _ _ _ _ (sym (c .edit .given .1) ∙ c .before .before .mu-na-edit-at .ensures)
@@ -27,22 +31,24 @@ enum-told : tie.Need-enum-told
 enum-told c = search needs
 
 returns : tie.Need-returns
-returns c = no-location _ _ _ (location-unread _ _ _ (sym (c .enum-told .given .1) ∙ c .before .before .location-at .ensures))
+returns c =
+    let a = c .before .before .before .before .args in
+    no-location (a .kind) (a .at) (a .s .now) (location-unread (a .kind) (a .at) (a .s .now) (sym (c .enum-told .given .1) ∙ c .before .before .location-at .ensures))
 
 sub-mu-na-edit-at : tie.Need-sub-mu-na-edit-at
-sub-mu-na-edit-at c = location-within (loc (c .before))
+sub-mu-na-edit-at c = location-within (kind (c .before)) (loc (c .before))
 
 part-mu-na-edit-at-start : tie.Need-part-mu-na-edit-at-start
-part-mu-na-edit-at-start c = location-within (loc (c .before))
+part-mu-na-edit-at-start c = location-within (kind (c .before)) (loc (c .before))
 
 part-mu-na-edit-at-end : tie.Need-part-mu-na-edit-at-end
 part-mu-na-edit-at-end c = search needs
 
 add-mu-na-edit-at : tie.Need-add-mu-na-edit-at
-add-mu-na-edit-at c = omega (arith, location-within (loc (c .before .before)), c .before .before .before .before .before .before .pre .0)
+add-mu-na-edit-at c = omega (arith, location-within (kind (c .before .before)) (loc (c .before .before)), c .before .before .before .before .before .before .pre .0)
 
 mu-na-edit-at-requires : tie.Need-mu-na-edit-at-requires
-mu-na-edit-at-requires c κs = (tail-room _ _ (c .before .before .before .before .before .before .args .s .now) (c .before .before .before .before .before .before .pre .0) (location-within (loc (c .before .before))), search needs)
+mu-na-edit-at-requires c κs = (tail-room _ _ (c .before .before .before .before .before .before .args .s .now) (c .before .before .before .before .before .before .pre .0) (location-within (kind (c .before .before)) (loc (c .before .before))), search needs)
 
 enum-known-edit : tie.Need-enum-known-edit
 enum-known-edit c = search needs
@@ -54,7 +60,7 @@ returns-2 : tie.Need-returns-2
 returns-2 c = no-edit _ _ _ (loc (c .before .before .before .before .before)) (mu-unread _ _ (sym (c .enum-told2 .given .1) ∙ c .before .before .mu-na-edit-at .ensures))
 
 add-if1 : tie.Need-add-if1
-add-if1 c = omega (arith, edit-le _ _ _ (loc (c .before .before .before .before .before .before)) (edit (c .before)))
+add-if1 c = omega (arith, edit-le (kind (c .before .before .before .before .before .before)) _ _ (loc (c .before .before .before .before .before .before)) (edit (c .before)))
 
 returns-3 : tie.Need-returns-3
 returns-3 c = not-ended _ _ _ (loc (c .before .before .before .before .before .before .before)) (edit (c .before .before)) (c .if1 .taken)

@@ -8,6 +8,7 @@ use Rattle.texts.specs.Runs.{front, behind, front-length}
 use Rattle.texts.specs.Words.{starts}
 use Rattle.alphabet.specs.Letters.{nucleotide}
 use Rattle.alphabet.specs.Classes.{member}
+use Rattle.scan.specs.Answers.{answered}
 use Rattle.read_na_edit.specs.Answer.{naEditAnswer}
 use Rattle.read_na_edit.proofs.Found.{found-equal}
 use Rattle.read_na_edit.proofs.Laws.{part-behind, counted-le, ident-some, ident-none}
@@ -62,7 +63,7 @@ returns c =
     (found-equal _ _ (c .no-faults .ensures) _ (front nucleotide s) _ (m .run-of .ensures ∙ sym (front-length nucleotide s)) (c .before .span .ensures))
 
 returns-2 : tie.Need-returns-2
-unfolding naEditAnswer
+unfolding answered
 returns-2 c = rw (ident-none nucleotide _ (sym (equal-is (c .before)) ∙ c .if1 .left))
 
 pub ident-spec : {M : Type 1} → statement M

@@ -8,6 +8,7 @@ use Rattle.alphabet.specs.Letters.{nucleotide}
 use Rattle.record.specs.declared.NaEdit.the-variants.{Ins}
 use Rattle.grammar.specs.NucleotideEdits as Tree
 use Rattle.na_edits.specs.Parse.{inserted}
+use Rattle.scan.specs.Answers.{answered}
 use Rattle.read_na_edit.specs.Answer.{naEditAnswer}
 use Rattle.read_na_edit.proofs.Found.{found-word}
 use Rattle.read_na_edit.proofs.Laws.{inserted-le, ins-none, ins-some}
@@ -22,7 +23,7 @@ inserted-requires : tie.Need-inserted-requires
 inserted-requires c κs = search needs
 
 returns : tie.Need-returns
-unfolding naEditAnswer
+unfolding answered
 returns c = rw (ins-none nucleotide (c .before .before .before .args .s .now) (sym (c .before .inserted .ensures) ∙ c .if1 .taken))
 
 add-span : tie.Need-add-span

@@ -6,6 +6,7 @@ use lib.ListN.{getD}
 use borrow.Author.Tests.{ne-eqb, not-true, not-false}
 use Rattle.alphabet.specs.Letters.{nucleotide}
 use Rattle.alphabet.specs.Classes.{member}
+use Rattle.scan.specs.Answers.{answered}
 use Rattle.read_na_edit.specs.Answer.{naEditAnswer}
 use Rattle.read_na_edit.proofs.Found.{found-swap}
 use Rattle.read_na_edit.proofs.Laws.{subst-short, subst-is}
@@ -18,14 +19,14 @@ unfolding member
 is-first c = sym (c .before .is-in .ensures) ∙ not-false _ (c .if3 .left)
 
 returns : tie.Need-returns
-unfolding naEditAnswer
+unfolding answered
 returns c = rw (subst-short nucleotide (c .before .before .args .s .now) (c .if1 .taken))
 
 shared-slice-read-if2 : tie.Need-shared-slice-read-if2
 shared-slice-read-if2 c = search needs
 
 returns-2 : tie.Need-returns-2
-unfolding naEditAnswer
+unfolding answered
 returns-2 c =
     let e = c .before .before in
     let s = e .before .before .args .s .now in
@@ -38,7 +39,7 @@ is-in-requires : tie.Need-is-in-requires
 is-in-requires c κs = search needs
 
 returns-3 : tie.Need-returns-3
-unfolding naEditAnswer member
+unfolding answered member
 returns-3 c =
     let d = c .before .before .before in
     let e = d .before .before in
@@ -53,7 +54,7 @@ is-in-requires-2 : tie.Need-is-in-requires-2
 is-in-requires-2 c κs = search needs
 
 returns-4 : tie.Need-returns-4
-unfolding naEditAnswer member
+unfolding answered member
 returns-4 c =
     let g = c .before .before .before in
     let d = g .before .before .before in

@@ -15,7 +15,7 @@ use Rattle.read_protein_body.proofs.opened.Tie as tie
 
 -- the interval that was read, and whether the bracket is closed behind it
 ends : (c : tie.After-l) → IntervalTold Prot (c .before .before .before .before .args .at + 1) (c .before .before .before .before .args .s .now) (c .l .given .0 .0) (c .l .given .0 .1 .0) (c .l .given .0 .1 .1 .0)
-ends c = interval-told _ _ _ _ _ _ (sym (c .l .given .1) ∙ c .before .before .interval-at .ensures)
+ends c = interval-told Prot _ _ _ _ _ (sym (c .l .given .1) ∙ c .before .before .interval-at .ensures)
 
 shut : (c : tie.Then1) → starts (ascii ")") (take (length (c .before .before .before .before .before .before .before .before .before .args .s .now) - c .before .before .before .before .before .l .given .0 .1 .0) (drop (c .before .before .before .before .before .l .given .0 .1 .0) (c .before .before .before .before .before .before .before .before .before .args .s .now))) ≡ true
 shut c = sym (c .before .begins .ensures) ∙ c .if1 .taken
@@ -36,10 +36,10 @@ returns : tie.Need-returns
 returns c = opened-none _ _ (sym (c .enum-told .given .1) ∙ c .before .before .interval-at .ensures)
 
 sub-begins : tie.Need-sub-begins
-sub-begins c = interval-within (ends (c .before))
+sub-begins c = interval-within Prot (ends (c .before))
 
 part-begins-start : tie.Need-part-begins-start
-part-begins-start c = interval-within (ends (c .before))
+part-begins-start c = interval-within Prot (ends (c .before))
 
 part-begins-end : tie.Need-part-begins-end
 part-begins-end c = search needs
@@ -90,10 +90,10 @@ returns-2 c =
     shut-found _ _ (ends (t .before .before .before .before .before)) (shut t) _ _ (u .uncertain .ensures) (c .before .before .settled-if .ensures) _ (c .after-location .ensures)
 
 sub-inside-brackets : tie.Need-sub-inside-brackets
-sub-inside-brackets c = interval-within (ends (c .before .before .before .before .before))
+sub-inside-brackets c = interval-within Prot (ends (c .before .before .before .before .before))
 
 part-inside-brackets-start : tie.Need-part-inside-brackets-start
-part-inside-brackets-start c = interval-within (ends (c .before .before .before .before .before))
+part-inside-brackets-start c = interval-within Prot (ends (c .before .before .before .before .before))
 
 part-inside-brackets-end : tie.Need-part-inside-brackets-end
 part-inside-brackets-end c = search needs
@@ -102,10 +102,10 @@ add-inside-brackets : tie.Need-add-inside-brackets
 add-inside-brackets c = search needs
 
 add-inside-brackets-2 : tie.Need-add-inside-brackets-2
-add-inside-brackets-2 c = omega (arith, interval-within (ends (c .before .before .before .before .before .before)), c .before .before .before .before .before .before .before .before .before .before .pre .0)
+add-inside-brackets-2 c = omega (arith, interval-within Prot (ends (c .before .before .before .before .before .before)), c .before .before .before .before .before .before .before .before .before .before .pre .0)
 
 inside-brackets-requires : tie.Need-inside-brackets-requires
-inside-brackets-requires c κs = (tail-room _ _ (c .before .before .before .before .before .before .before .before .before .before .args .s .now) (c .before .before .before .before .before .before .before .before .before .before .pre .0) (interval-within (ends (c .before .before .before .before .before .before))), omega (arith, interval-within (ends (c .before .before .before .before .before .before)), c .before .before .before .before .before .before .before .before .before .before .pre .0), search needs)
+inside-brackets-requires c κs = (tail-room _ _ (c .before .before .before .before .before .before .before .before .before .before .args .s .now) (c .before .before .before .before .before .before .before .before .before .before .pre .0) (interval-within Prot (ends (c .before .before .before .before .before .before))), omega (arith, interval-within Prot (ends (c .before .before .before .before .before .before)), c .before .before .before .before .before .before .before .before .before .before .pre .0), search needs)
 
 returns-3 : tie.Need-returns-3
 returns-3 c = brackets-found _ _ (ends (c .before .before .before .before .before .before .before)) (sym (c .before .before .before .begins .ensures) ∙ c .before .before .if1 .left) _ (c .inside-brackets .ensures)

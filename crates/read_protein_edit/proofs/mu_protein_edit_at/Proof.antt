@@ -4,13 +4,14 @@ use mathlib.Core.Path.{_≡_, sym, _∙_}
 use native.Mathlib.Omega.{arith}
 use lib.ListN.{length}
 use borrow.Author.Needs.{needs}
-use borrow.Author.Tests.{not-true, not-false}
 use Rattle.texts.specs.Slices.{tail, tail-room}
 use Rattle.texts.specs.Brackets.{opening-le}
+use Rattle.scan.specs.MuAnswers.{mu-none, mu-le, mu-bare, mu-closed, mu-missing}
 use Rattle.protein_edits.specs.Parse.{parse}
 use Rattle.read_protein_edit.specs.declared.ProteinEditRead.the-variants.{Found}
+use Rattle.read_protein_edit.specs.declared.MuProteinEditRead.the-variants as Mus
 use Rattle.read_protein_edit.specs.Answer.{proteinEditAnswer}
-use Rattle.read_protein_edit.proofs.MuLaws.{mu-none, mu-le, mu-bare, mu-room, mu-shut, mu-left}
+use Rattle.read_protein_edit.specs.Told.{edit-cases, bracketed}
 use Rattle.read_protein_edit.proofs.mu_protein_edit_at.Statement.{statement}
 use Rattle.read_protein_edit.proofs.mu_protein_edit_at.Tie as tie
 
@@ -18,12 +19,9 @@ use Rattle.read_protein_edit.proofs.mu_protein_edit_at.Tie as tie
 bracket-le : (c : tie.After-opening) → c .opening .result ≤ length (c .before .before .args .s .now)
 bracket-le c = omega (arith, c .opening .ensures, opening-le (c .before .before .args .s .now))
 
--- what was read behind it, and that it lies within the text
+-- what was read behind it
 read : (c : tie.After-e) → Found (c .e .given .0 .0) (c .e .given .0 .1 .0) (c .e .given .0 .1 .1 .0) ≡ proteinEditAnswer (c .before .before .before .before .before .before .args .at + c .before .before .before .before .opening .result) (parse (tail (c .before .before .before .before .opening .result) (c .before .before .before .before .before .before .args .s .now)))
 read c = sym (c .e .given .1) ∙ c .before .before .protein-edit-at .ensures
-
-read-le : (c : tie.After-e) → c .before .before .before .before .opening .result + c .e .given .0 .1 .0 ≤ length (c .before .before .before .before .before .before .args .s .now)
-read-le c = mu-le _ _ _ (c .before .before .before .before .opening .ensures) _ _ _ (read c)
 
 opening-requires : tie.Need-opening-requires
 opening-requires c κs = search needs
@@ -52,47 +50,37 @@ enum-told c = search needs
 returns : tie.Need-returns
 returns c =
     let r = c .before .before in
-    mu-none _ _ _ (r .before .before .opening .ensures) (sym (c .enum-told .given .1) ∙ r .protein-edit-at .ensures)
+    mu-none bracketed edit-cases _ _ _ _ _ (r .before .before .opening .ensures) (sym (c .enum-told .given .1) ∙ r .protein-edit-at .ensures)
+
+closing-requires : tie.Need-closing-requires
+closing-requires c κs = mu-le bracketed edit-cases Mus.Nothing Mus.Found _ _ _ (c .before .before .before .before .before .opening .ensures) _ _ _ (read (c .before))
+
+enum-told-2 : tie.Need-enum-told-2
+enum-told-2 c = search needs
+
+enum-known-k : tie.Need-enum-known-k
+enum-known-k c = search needs
+
+enum-told-3 : tie.Need-enum-told-3
+enum-told-3 c = search needs
 
 returns-2 : tie.Need-returns-2
 returns-2 c =
-    let e = c .before .before in
-    mu-bare _ _ _ (e .before .before .before .before .opening .ensures) _ _ _ (read e) (c .if1 .taken)
-
-add-k : tie.Need-add-k
-add-k c = omega (arith, read-le (c .before .before))
-
-sub-begins : tie.Need-sub-begins
-sub-begins c = read-le (c .before .before)
-
-part-begins-start : tie.Need-part-begins-start
-part-begins-start c = read-le (c .before .before)
-
-part-begins-end : tie.Need-part-begins-end
-part-begins-end c = search needs
-
-slice-aggregate-begins : tie.Need-slice-aggregate-begins
-slice-aggregate-begins c = search needs
-
-begins-requires : tie.Need-begins-requires
-begins-requires c κs = search needs
+    let a = c .before .before in
+    let e = a .before .before in
+    mu-bare bracketed edit-cases _ _ _ _ _ (e .before .before .before .before .opening .ensures) _ _ _ (read e) (sym (c .enum-told2 .given .1) ∙ a .closing .ensures)
 
 returns-3 : tie.Need-returns-3
 returns-3 c =
-    let l = c .before .before .before .before in
-    let e = l .before .before in
-    mu-left _ _ _ (e .before .before .before .before .opening .ensures) _ _ _ (read e) (l .if1 .left) (sym (c .before .begins .ensures) ∙ not-true (c .before .begins .result) (c .if2 .taken))
-
-add-t15 : tie.Need-add-t15
-add-t15 c =
-    let e = c .before .before .before .before .before .before in
-    omega (arith, mu-room _ _ _ (e .before .before .before .before .opening .ensures) _ _ _ (read e) (sym (c .before .begins .ensures) ∙ not-false (c .before .begins .result) (c .if2 .left)))
+    let a = c .before .before .before in
+    let e = a .before .before in
+    mu-closed bracketed edit-cases _ _ _ _ _ (e .before .before .before .before .opening .ensures) _ _ _ (read e) _ (sym (c .before .k .given .1) ∙ a .closing .ensures)
 
 returns-4 : tie.Need-returns-4
 returns-4 c =
-    let l = c .before .before .before .before in
-    let e = l .before .before in
-    mu-shut _ _ _ (e .before .before .before .before .opening .ensures) _ _ _ (read e) (l .if1 .left) (sym (c .before .begins .ensures) ∙ not-false (c .before .begins .result) (c .if2 .left))
+    let a = c .before .before in
+    let e = a .before .before in
+    mu-missing bracketed edit-cases _ _ _ _ _ (e .before .before .before .before .opening .ensures) _ _ _ (read e) (sym (c .enum-told3 .given .1) ∙ a .closing .ensures)
 
 pub mu-protein-edit-at-spec : {M : Type 1} → statement M
 mu-protein-edit-at-spec =
@@ -107,13 +95,10 @@ mu-protein-edit-at-spec =
     enum-known-e
     enum-told
     returns
+    closing-requires
+    enum-told-2
+    enum-known-k
+    enum-told-3
     returns-2
-    add-k
-    sub-begins
-    part-begins-start
-    part-begins-end
-    slice-aggregate-begins
-    begins-requires
     returns-3
-    add-t15
     returns-4)
