@@ -1,6 +1,6 @@
 // The line program: standard input to standard output, in large pieces.
-// No contract can speak of what is read or written. So what comes next is decided, by what the last read or write has answered, in
-// functions whose contracts say all of it (`line_turns`), and `act` makes the calls.
+// No contract can speak of what is read or written. So what comes next is decided, by what the last turn has given, in functions whose
+// contracts say all of it (`line_turns`), and `act` makes the calls.
 use libc::STDERR_FILENO;
 use libc::STDIN_FILENO;
 use libc::STDOUT_FILENO;
@@ -10,7 +10,7 @@ ghost use lib.ListN.{length};
 ghost use Rattle.line_runs.specs.After.{Ready, Acted};
 ghost use Rattle.line_runs.specs.Runs.{Ran};
 
-// One read or one write, and what comes next.
+// One read, one step, one write or the last line's answer, and what comes next.
 fn act(next: Next, input: &mut [u8], buffer: &mut [u8], out: &mut [u8]) -> Next
     requires { ⌜ Ready next (now input) (now buffer) (now out) ⌝ }
     ensures { λ r. ⌜ Acted next (now (input .entry)) (now (buffer .entry)) (now (out .entry)) r (now (input .exit)) (now (buffer .exit)) (now (out .exit)) ⌝ }
@@ -18,13 +18,21 @@ fn act(next: Next, input: &mut [u8], buffer: &mut [u8], out: &mut [u8]) -> Next
     match next {
         Next::Read(line) => {
             let got = libc::read(STDIN_FILENO, input);
-            line_turns::after_read(got, input, buffer, line, out)
+            line_turns::after_read(got, input, line)
+        }
+        Next::Step(rest) => {
+            let used = rest.used;
+            let piece = rest.piece;
+            let line = rest.line;
+            let s = line_steps::step(&input[used..piece], buffer, line, out);
+            line_turns::after_step(s, rest)
         }
         Next::Write(w) => {
             let at = w.at;
             let done = io::write_all(STDOUT_FILENO, &out[..at]);
-            line_turns::after_write(done, input, buffer, w, out)
+            line_turns::after_write(done, w)
         }
+        Next::Finish(line) => Next::WriteLast(line_steps::finish(buffer, line, out)),
         Next::WriteLast(at) => Next::Stop(io::write_all(STDOUT_FILENO, &out[..at])),
         Next::Stop(well) => Next::Stop(well),
     }

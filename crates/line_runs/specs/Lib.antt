@@ -1,4 +1,3 @@
 pub mod After
-pub mod Unique
 pub mod Runs
 pub mod Fronts
