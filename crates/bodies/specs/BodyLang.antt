@@ -9,7 +9,7 @@ use Rattle.record.specs.declared.Kind.the-variants.{Cds, Genome, Mt, Tx, Prot, 
 use Rattle.grammar.specs.Bodies.{Body, printBody, WfBody}
 use Rattle.lang.specs.Whole.{whole, whole-complete, whole-sound}
 use Rattle.na_edits.specs.Alphabet.{Alphabet}
-use Rattle.na_edits.specs.Sound.{stop-nil}
+use Rattle.na_edits.specs.Sound.{follows-nil}
 use Rattle.bodies.specs.NaBodies.{naBodyLang}
 use Rattle.bodies.specs.ProteinBodies.{parseProteinBody}
 use Rattle.bodies.specs.ProteinSound.{complete-protein, sound-protein}
@@ -24,12 +24,12 @@ module _ (letters : Kind → ℕ → Bool) (al : (k : Kind) → Alphabet (letter
   parseBody Rna = whole (naBodyLang (letters Rna) (al Rna) Rna)
 
   pub complete-body : (k : Kind) (t : Body k) → WfBody letters k t → parseBody k (printBody k t) ≡ some t
-  complete-body Cds = whole-complete (naBodyLang (letters Cds) (al Cds) Cds) (stop-nil (letters Cds))
-  complete-body Genome = whole-complete (naBodyLang (letters Genome) (al Genome) Genome) (stop-nil (letters Genome))
-  complete-body Mt = whole-complete (naBodyLang (letters Mt) (al Mt) Mt) (stop-nil (letters Mt))
-  complete-body Tx = whole-complete (naBodyLang (letters Tx) (al Tx) Tx) (stop-nil (letters Tx))
+  complete-body Cds = whole-complete (naBodyLang (letters Cds) (al Cds) Cds) (follows-nil (letters Cds))
+  complete-body Genome = whole-complete (naBodyLang (letters Genome) (al Genome) Genome) (follows-nil (letters Genome))
+  complete-body Mt = whole-complete (naBodyLang (letters Mt) (al Mt) Mt) (follows-nil (letters Mt))
+  complete-body Tx = whole-complete (naBodyLang (letters Tx) (al Tx) Tx) (follows-nil (letters Tx))
   complete-body Prot = complete-protein
-  complete-body Rna = whole-complete (naBodyLang (letters Rna) (al Rna) Rna) (stop-nil (letters Rna))
+  complete-body Rna = whole-complete (naBodyLang (letters Rna) (al Rna) Rna) (follows-nil (letters Rna))
 
   pub sound-body : (k : Kind) (s : List ℕ) (t : Body k) → parseBody k s ≡ some t → WfBody letters k t × (printBody k t ≡ s)
   sound-body Cds = whole-sound (naBodyLang (letters Cds) (al Cds) Cds)

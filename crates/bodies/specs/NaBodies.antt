@@ -7,17 +7,17 @@ use Rattle.grammar.specs.Shapes.{Mu, printMu, WfMu}
 use Rattle.grammar.specs.NucleotideEdits.{NaEdit, printNaEdit, WfNaEdit}
 use Rattle.lang.specs.Lang.{Lang}
 use Rattle.lang.specs.BothLang.{behind}
-use Rattle.lang.specs.IntervalLang.{StopInterval}
-use Rattle.location.specs.Languages.{posLang, locationLang, ends-stop-at}
+use Rattle.lang.specs.IntervalLang.{FollowsInterval}
+use Rattle.location.specs.Languages.{posLang, locationLang, ends-follows-at}
 use Rattle.na_edits.specs.Alphabet.{Alphabet}
-use Rattle.na_edits.specs.Sound.{Stop}
+use Rattle.na_edits.specs.Sound.{Follows}
 use Rattle.na_edits.specs.Brackets.{muNaEditLang, edit-first}
 
 module _ (na : ℕ → Bool) (al : Alphabet na) (k : Kind) where
-  pub na-follows : (t : Mu NaEdit) (r : List ℕ) → WfMu (WfNaEdit na) t → Stop na r → StopInterval (posLang k) (printMu printNaEdit t ++ r)
+  pub na-follows : (t : Mu NaEdit) (r : List ℕ) → WfMu (WfNaEdit na) t → Follows na r → FollowsInterval (posLang k) (printMu printNaEdit t ++ r)
   na-follows t r w st =
       let h = edit-first na al t r w in
-      rw (h .text) (ends-stop-at k (h .byte) (h .rest) (h .holds .no-digit) (h .holds .no-mark))
+      rw (h .text) (ends-follows-at k (h .byte) (h .rest) (h .holds .no-digit) (h .holds .no-mark))
 
   abbrev pub naBodyLang : Lang
   naBodyLang = behind (locationLang k) (muNaEditLang na al) na-follows

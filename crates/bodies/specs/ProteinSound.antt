@@ -21,30 +21,30 @@ use Rattle.grammar.specs.ProteinEdits.{ProteinEdit, printProteinEdit, WfProtein
 use Rattle.grammar.specs.Bodies.{Ends, printEnds, WfEnds, WfLocation, ProteinBody, ProteinBody.met1, ProteinBody.bracketedMet1, ProteinBody.noProteinUncertain, ProteinBody.noProtein, ProteinBody.noChangeUncertain, ProteinBody.noChange, ProteinBody.unknown, ProteinBody.change, ProteinBody.bracketed, printProteinBody, WfProteinBody, NotMet1}
 use Rattle.lang.specs.Choice.{orNext}
 use Rattle.lang.specs.Lang.{Front, rest-is}
-use Rattle.lang.specs.IntervalLang.{StopInterval, parseInterval}
+use Rattle.lang.specs.IntervalLang.{FollowsInterval, parseInterval}
 use Rattle.lang.specs.Canon.{map-some}
 use Rattle.lang.specs.Whole.{nothing-behind}
 use Rattle.residue.specs.Rows.{rows}
 use Rattle.residue.specs.Residues.{oneOf, isThree, isOne}
 use Rattle.residue.specs.Reading.{residueLen}
 use Rattle.location.specs.Parse.{parseResidual}
-use Rattle.location.specs.Languages.{posLang, endsLang, ends-stop-at, brackets}
+use Rattle.location.specs.Languages.{posLang, endsLang, ends-follows-at, brackets}
 use Rattle.protein_edits.specs.Instance.{proteinEditLang, muProteinEditLang}
-use Rattle.protein_edits.specs.Follow.{stop-nil, stop-close}
+use Rattle.protein_edits.specs.Follow.{follows-nil, follows-close}
 use Rattle.protein_edits.specs.First.{firsts, Head, edit-head, mu-head, head-word}
 use Rattle.bodies.specs.ProteinBodies.{exactBodies, firstExact, afterLocation, closing, insideBrackets, onEnds, parseOpened, parsePlain, parseOrdinary, ended, parseProteinBody}
 
 -- ---- complete
 -- an edit may stand behind an interval
-follows : (s : List ℕ) → Head (code "(" ∷ firsts) s → StopInterval (posLang Prot) s
+follows : (s : List ℕ) → Head (code "(" ∷ firsts) s → FollowsInterval (posLang Prot) s
 unfolding digit every
 follows s h =
     rw (h .text)
-    (ends-stop-at Prot (h .byte) (h .rest)
+    (ends-follows-at Prot (h .byte) (h .rest)
     (among-none digit (h .byte) (code "(" ∷ firsts) refl (h .holds))
     (among-none (λ c. among c (ascii "+-_")) (h .byte) (code "(" ∷ firsts) refl (h .holds)))
 
-mu-follows : (e : Mu ProteinEdit) (r : List ℕ) → WfMu WfProteinEdit e → StopInterval (posLang Prot) (printMu printProteinEdit e ++ r)
+mu-follows : (e : Mu ProteinEdit) (r : List ℕ) → WfMu WfProteinEdit e → FollowsInterval (posLang Prot) (printMu printProteinEdit e ++ r)
 mu-follows e r w = follows _ (mu-head e r w)
 
 -- location and edit, without the bar on the two texts of Met1
@@ -60,7 +60,7 @@ WfOrdinary (change (both l e)) = WfLocation Prot l × WfMu WfProteinEdit e
 WfOrdinary (bracketed (both i e)) = WfEnds Prot i × WfProteinEdit e
 
 after-complete : (l : Mu (Ends Prot)) (e : Mu ProteinEdit) → WfMu WfProteinEdit e → afterLocation l (printMu printProteinEdit e) ≡ some (change (both l e))
-after-complete l e w = rw (rw append-nil at (muProteinEditLang .complete e [] w stop-nil))
+after-complete l e w = rw (rw append-nil at (muProteinEditLang .complete e [] w follows-nil))
 
 pub ordinary-complete : (b : ProteinBody) → WfOrdinary b → parseOrdinary (printProteinBody b) ≡ some b
 unfolding parseOrdinary parsePlain parseOpened starts every
@@ -73,7 +73,7 @@ ordinary-complete noChange w = absurd w
 ordinary-complete unknown w = absurd w
 ordinary-complete (change (both (certain i) e)) w =
     let r : List ℕ = printMu printProteinEdit e in
-    let st : StopInterval (posLang Prot) r = rw append-nil at (mu-follows e [] (w .1)) in
+    let st : FollowsInterval (posLang Prot) r = rw append-nil at (mu-follows e [] (w .1)) in
     rw (brackets Prot .no-open i r (w .0), endsLang Prot .complete i r (w .0) st, drop-append-seam (printEnds Prot i) r) (after-complete (certain i) e (w .1))
 ordinary-complete (change (both (uncertain i) e)) w =
     let r : List ℕ = ascii ")" ++ printMu printProteinEdit e in
@@ -83,8 +83,8 @@ ordinary-complete (bracketed (both i e)) w =
     let r : List ℕ = printProteinEdit e ++ ascii ")" in
     let q : (printEnds Prot i ++ printProteinEdit e) ++ ascii ")" ≡ printEnds Prot i ++ r = append-assoc (printEnds Prot i) (printProteinEdit e) (ascii ")") in
     let h : Head firsts r = edit-head e (ascii ")") (w .1) in
-    let st : StopInterval (posLang Prot) r = mu-follows (certain e) (ascii ")") (w .1) in
-    rw (q, endsLang Prot .complete i r (w .0) st, drop-append-seam (printEnds Prot i) r, head-word firsts r h (code ")") [] refl refl, proteinEditLang .complete e (ascii ")") (w .1) (stop-close []), drop-append-seam (printProteinEdit e) (ascii ")"))
+    let st : FollowsInterval (posLang Prot) r = mu-follows (certain e) (ascii ")") (w .1) in
+    rw (q, endsLang Prot .complete i r (w .0) st, drop-append-seam (printEnds Prot i) r, head-word firsts r h (code ")") [] refl refl, proteinEditLang .complete e (ascii ")") (w .1) (follows-close []), drop-append-seam (printProteinEdit e) (ascii ")"))
 
 -- ---- sound
 after-sound : (l : Mu (Ends Prot)) (r : List ℕ) (t : ProteinBody) → afterLocation l r ≡ some t

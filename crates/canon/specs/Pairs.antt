@@ -17,7 +17,7 @@ use Rattle.residue.specs.Rows.{rows}
 use Rattle.residue.specs.Reading.{residueLen, threesLen, residuesLen}
 use Rattle.residue.specs.Residues.{oneOf, isThree, isOne, isResidue, threes, isResidues}
 use Rattle.number.specs.Digits.{valFrom, decUpTo}
-use Rattle.number.specs.Reading.{saturated}
+use Rattle.number.specs.Reading.{orZero}
 use Rattle.record.specs.declared.Kind.{Kind}
 use Rattle.record.specs.declared.Kind.the-variants.{Cds, Genome, Mt, Tx, Prot, Rna}
 use Rattle.record.specs.declared.HgvsVariant.{HgvsVariant}
@@ -175,7 +175,7 @@ pairs =
     []
 
 pairs-answered : map answered pairs ≡ pairs
-unfolding every run front behind starts same nucleotide residue letter digit alphanumeric rows residueLen threesLen residuesLen oneOf isThree isOne isResidue threes isResidues valFrom decUpTo saturated whole parseMu parseBoth parseInterval onDigits parseMark parseOffset parseBased parseUnstarred parseGenomic parseResidual onSome parseIdent parseSubst inserted afterDelNum afterDel afterInv parseDel parseIns parseDup parseInv parseNaEdit canonTerminal bytesOf terminalAt lengthAt stopAt earlierWith earlierAt extEndAt residuesBehind insertedAt wordedAt parseWith parseProteinEdit isThere parseOptional parseAccession parseGene parseHeader firstKind parseKind canonHeader firstExact parseOpened parsePlain parseOrdinary parseProteinBody parseText
+unfolding every run front behind starts same nucleotide residue letter digit alphanumeric rows residueLen threesLen residuesLen oneOf isThree isOne isResidue threes isResidues valFrom decUpTo orZero whole parseMu parseBoth parseInterval onDigits parseMark parseOffset parseBased parseUnstarred parseGenomic parseResidual onSome parseIdent parseSubst inserted afterDelNum afterDel afterInv parseDel parseIns parseDup parseInv parseNaEdit canonTerminal bytesOf terminalAt lengthAt stopAt earlierWith earlierAt extEndAt residuesBehind insertedAt wordedAt parseWith parseProteinEdit isThere parseOptional parseAccession parseGene parseHeader firstKind parseKind canonHeader firstExact parseOpened parsePlain parseOrdinary parseProteinBody parseText
 pairs-answered = refl
 
 pub pairs-hold : AllHold pairs

@@ -16,8 +16,8 @@ use Rattle.alphabet.specs.Letters.{digit}
 use Rattle.number.specs.declared.Sign.the-variants.{Plain}
 use Rattle.number.specs.Digits.{valFrom, val, decUpTo}
 use Rattle.number.specs.Decimals.{next-best}
-use Rattle.number.specs.Reading.{saturated}
-use Rattle.number.specs.Signs.{saturated-fit}
+use Rattle.number.specs.Reading.{orZero}
+use Rattle.number.specs.Signs.{or-zero-fit}
 use Rattle.residue.specs.Rows.{rows}
 use Rattle.residue.specs.Residues.{oneOf, isThree, isResidue}
 use Rattle.record.specs.declared.Kind.the-variants.{Prot}
@@ -160,7 +160,7 @@ unfolding every digit
 one-digits = record { some = omega arith; all = refl }
 
 met-number : number Plain (ascii "1") ≡ pos 1
-unfolding saturated valFrom
+unfolding orZero valFrom
 met-number = refl
 
 unbarred : (l : Mu (EndsV Prot)) (e : Mu ProteinEditV) (b : ProteinBody) → WfOrdinary b → meaningProteinBody b ≡ ordinary (both l e) → barred l e ≡ false → NotMet1 (printProteinBody b)
@@ -265,7 +265,7 @@ unfolding every digit
 zero-one-digits = record { some = omega arith; all = refl }
 
 met01-means : meaningEnds Prot met01 ≡ both metOne metOne
-unfolding saturated valFrom
+unfolding orZero valFrom
 met01-means = refl
 
 met01-fits : endsCanon Prot .Fits met01
@@ -334,7 +334,7 @@ one-pair a b =
 -- a position Met 1
 met-one : (r ds : List ℕ) → misfit (residualNumbers 0 (residual r ds)) ≡ none → meaningProt (residual r ds) ≡ metOne → (r ≡ ascii "Met") × (val ds ≡ 1)
 met-one r ds f m =
-    let n = saturated-fit Plain (val ds) (one-fits (0 + length r) Plain ds f) in
+    let n = or-zero-fit Plain (val ds) (one-fits (0 + length r) Plain ds f) in
     (cc, cc)
 
 -- any other text of Met 1 and Met 1 is no better than `Met01`

@@ -16,4 +16,4 @@ module _ {Tree : Type 0} (print : Tree → List ℕ) (Wf : Tree → Type 0) (par
   sound-whole s t e = let h = sound s t e in record { wf = h .0; after = []; text = append-nil (print t) ∙ h .1 }
 
   abbrev pub wholeLang : Lang
-  wholeLang = record { Tree = Tree; print = print; Wf = Wf; Stop = Ended; parse = parse; complete = complete-whole; sound = sound-whole }
+  wholeLang = record { Tree = Tree; print = print; Wf = Wf; Follows = Ended; parse = parse; complete = complete-whole; sound = sound-whole }

@@ -11,7 +11,7 @@ use lib.ListN.{length, replicate}
 use borrow.Author.Tests.{leb-true, leb-false}
 use Rattle.texts.specs.Ascii.{ascii}
 use Rattle.number.specs.Digits.{valFrom}
-use Rattle.number.specs.Reading.{saturated}
+use Rattle.number.specs.Reading.{orZero}
 use Rattle.record.specs.declared.Span.{Span}
 use Rattle.record.specs.declared.Part.{Part}
 use Rattle.record.specs.declared.Part.the-variants as Pt
@@ -126,7 +126,7 @@ abbrev Computed : Row ReadAnswer → Type 0
 Computed r = answer r.written ≡ r.beside
 
 computed : Each Computed answers
-unfolding computing valFrom saturated
+unfolding computing valFrom orZero
 computed = columns (λ r. answer r.written) (λ r. r.beside) answers refl
 
 -- it meets the reader's contract, and no other does

@@ -7,7 +7,7 @@ use Rattle.texts.specs.Ascii.{ascii}
 use Rattle.number.specs.declared.Sign.{Sign}
 use Rattle.number.specs.declared.Sign.the-variants.{Plain, Minus, Negated}
 use Rattle.number.specs.Digits.{val}
-use Rattle.number.specs.Reading.{saturated}
+use Rattle.number.specs.Reading.{orZero}
 use Rattle.record.specs.declared.Kind.{Kind}
 use Rattle.record.specs.declared.Kind.the-variants.{Cds, Genome, Mt, Tx, Prot, Rna}
 use Rattle.record.specs.declared.Offset as Declared
@@ -36,7 +36,7 @@ use Rattle.grammar.specs.Values.{ProtPosV, ProtPosV.protPosV, PositionV,
 
 -- the number that digits write with a sign; where it does not fit, which no record has, 0 stands for it
 abbrev pub number : Sign → List ℕ → ℤ
-number sign ds = saturated sign (val ds)
+number sign ds = orZero sign (val ds)
 
 -- ---- positions
 abbrev pub signOf : Mark → Sign

@@ -13,7 +13,7 @@ use Rattle.record.specs.declared.Kind.the-variants.{Cds, Genome, Mt, Tx, Prot, 
 use Rattle.grammar.specs.Header.{printKind}
 use Rattle.lang.specs.Lang.{Front, Lang}
 use Rattle.lang.specs.BothLang.{behind}
-use Rattle.headers.specs.Sound.{StopHeader, headerLang, header-colon}
+use Rattle.headers.specs.Sound.{FollowsHeader, headerLang, header-colon}
 
 -- the first kind of a row whose text stands at the front
 unfoldable pub firstKind : List Kind → List ℕ → Option Kind
@@ -27,10 +27,10 @@ abbrev pub WfKind : Kind → Type 0
 WfKind k = Unit
 
 -- anything may follow a kind
-abbrev pub StopKind : List ℕ → Type 0
-StopKind r = Unit
+abbrev pub FollowsKind : List ℕ → Type 0
+FollowsKind r = Unit
 
-pub complete-kind : (k : Kind) (r : List ℕ) → WfKind k → StopKind r → parseKind (printKind k ++ r) ≡ some k
+pub complete-kind : (k : Kind) (r : List ℕ) → WfKind k → FollowsKind r → parseKind (printKind k ++ r) ≡ some k
 unfolding parseKind firstKind starts
 complete-kind Cds r w st = refl
 complete-kind Genome r w st = refl
@@ -55,10 +55,10 @@ unfolding parseKind
 sound-kind s k h = first-front (Cds ∷ Genome ∷ Mt ∷ Tx ∷ Prot ∷ Rna ∷ []) s k h
 
 abbrev pub kindLang : Lang
-kindLang = record { Tree = Kind; print = printKind; Wf = WfKind; Stop = StopKind; parse = parseKind; complete = complete-kind; sound = sound-kind }
+kindLang = record { Tree = Kind; print = printKind; Wf = WfKind; Follows = FollowsKind; parse = parseKind; complete = complete-kind; sound = sound-kind }
 
 -- ---- a kind may follow a header
-pub kind-follows : (k : Kind) (r : List ℕ) → WfKind k → StopKind r → StopHeader (printKind k ++ r)
+pub kind-follows : (k : Kind) (r : List ℕ) → WfKind k → FollowsKind r → FollowsHeader (printKind k ++ r)
 kind-follows Cds r w st = header-colon (ascii "c." ++ r)
 kind-follows Genome r w st = header-colon (ascii "g." ++ r)
 kind-follows Mt r w st = header-colon (ascii "m." ++ r)

@@ -23,7 +23,7 @@ use Rattle.headers.specs.Parse.{suffixOf, named, parseAccession, closed,
 
 -- ---- the accession
 -- what may follow it: no letter or digit, no `_` and no `.`
-pub record StopAccession (r : List ℕ) : Type 0 where
+pub record FollowsAccession (r : List ℕ) : Type 0 where
   pub no-more : run alphanumeric r ≡ 0
   pub no-suffix : starts (ascii "_") r ≡ false
   pub no-version : starts (ascii ".") r ≡ false
@@ -37,7 +37,7 @@ digit-alphanumeric : (b : ℕ) → digit b ≡ true → alphanumeric b ≡ true
 unfolding alphanumeric
 digit-alphanumeric b e = right-or (letter b) e
 
-pub complete-accession : (t : Accession) (r : List ℕ) → WfAccession t → StopAccession r → parseAccession (printAccession t ++ r) ≡ some t
+pub complete-accession : (t : Accession) (r : List ℕ) → WfAccession t → FollowsAccession r → parseAccession (printAccession t ++ r) ≡ some t
 unfolding parseAccession alphanumeric letter digit starts
 complete-accession (accession b n o v) r w st =
     let z : List ℕ = printOptional (ascii ".") v ++ r in
@@ -72,7 +72,7 @@ sound-accession (b ∷ s) t h =
     })
 
 abbrev pub accessionLang : Lang
-accessionLang = record { Tree = Accession; print = printAccession; Wf = WfAccession; Stop = StopAccession; parse = parseAccession; complete = complete-accession; sound = sound-accession }
+accessionLang = record { Tree = Accession; print = printAccession; Wf = WfAccession; Follows = FollowsAccession; parse = parseAccession; complete = complete-accession; sound = sound-accession }
 
 -- ---- the gene
 gene-is : (gene : Option (List ℕ)) (r : List ℕ) → WfOptional (Some alphanumeric) gene → starts (ascii "(") r ≡ false → parseGene (printGene gene ++ r) ≡ gene
@@ -103,16 +103,16 @@ gene-front s = go (parseOptional (ascii "(") alphanumeric s) (optional-front (as
 
 -- ---- the header
 -- what may follow it: what may follow an accession, and no bracket
-pub record StopHeader (r : List ℕ) : Type 0 where
-  pub accession-ends : StopAccession r
+pub record FollowsHeader (r : List ℕ) : Type 0 where
+  pub accession-ends : FollowsAccession r
   pub no-gene : starts (ascii "(") r ≡ false
 
-gene-follows : (gene : Option (List ℕ)) (r : List ℕ) → StopHeader r → StopAccession (printGene gene ++ r)
+gene-follows : (gene : Option (List ℕ)) (r : List ℕ) → FollowsHeader r → FollowsAccession (printGene gene ++ r)
 unfolding run starts alphanumeric letter digit
 gene-follows none r st = st .accession-ends
 gene-follows (some x) r st = record { no-more = refl; no-suffix = refl; no-version = refl }
 
-pub complete-header : (t : Header) (r : List ℕ) → WfHeader t → StopHeader r → parseHeader (printHeader t ++ r) ≡ some t
+pub complete-header : (t : Header) (r : List ℕ) → WfHeader t → FollowsHeader r → parseHeader (printHeader t ++ r) ≡ some t
 unfolding parseHeader
 complete-header (header a gene) r w st =
     let y : List ℕ = printGene gene ++ r in
@@ -136,13 +136,13 @@ sound-header s t h = go (parseAccession s) refl h
         })
 
 abbrev pub headerLang : Lang
-headerLang = record { Tree = Header; print = printHeader; Wf = WfHeader; Stop = StopHeader; parse = parseHeader; complete = complete-header; sound = sound-header }
+headerLang = record { Tree = Header; print = printHeader; Wf = WfHeader; Follows = FollowsHeader; parse = parseHeader; complete = complete-header; sound = sound-header }
 
 -- ---- the end may follow a header, and `:`
-pub header-end : StopHeader []
+pub header-end : FollowsHeader []
 unfolding run starts
 header-end = record { accession-ends = record { no-more = refl; no-suffix = refl; no-version = refl }; no-gene = refl }
 
-pub header-colon : (r : List ℕ) → StopHeader (ascii ":" ++ r)
+pub header-colon : (r : List ℕ) → FollowsHeader (ascii ":" ++ r)
 unfolding run starts alphanumeric letter digit
 header-colon r = record { accession-ends = record { no-more = refl; no-suffix = refl; no-version = refl }; no-gene = refl }

@@ -10,7 +10,7 @@ use Rattle.lang.specs.Lang.{Lang}
 use Rattle.lang.specs.BothLang.{behind}
 use Rattle.lang.specs.Canon.{Canon, Right, Covered, bothO, both-some}
 
-module _ (L M : Lang) (follows : (b : M .Tree) (r : List ℕ) → M .Wf b → M .Stop r → L .Stop (M .print b ++ r)) (C : Canon L) (D : Canon M) where
+module _ (L M : Lang) (follows : (b : M .Tree) (r : List ℕ) → M .Wf b → M .Follows r → L .Follows (M .print b ++ r)) (C : Canon L) (D : Canon M) where
   abbrev pub canonBoth : Both (C .Value) (D .Value) → Option (Both (L .Tree) (M .Tree))
   canonBoth (both v w) = bothO both (C .canon v) (D .canon w)
 

@@ -22,8 +22,8 @@ module _ (L M : Lang) where
   parseBoth s = first s (L .parse s)
 
   -- the second's texts may follow the first
-  module _ (follows : (b : M .Tree) (r : List ℕ) → M .Wf b → M .Stop r → L .Stop (M .print b ++ r)) where
-    pub complete-both : (t : Both (L .Tree) (M .Tree)) (r : List ℕ) → WfBoth (L .Wf) (M .Wf) t → M .Stop r → parseBoth (printBoth (L .print) (M .print) t ++ r) ≡ some t
+  module _ (follows : (b : M .Tree) (r : List ℕ) → M .Wf b → M .Follows r → L .Follows (M .print b ++ r)) where
+    pub complete-both : (t : Both (L .Tree) (M .Tree)) (r : List ℕ) → WfBoth (L .Wf) (M .Wf) t → M .Follows r → parseBoth (printBoth (L .print) (M .print) t ++ r) ≡ some t
     unfolding parseBoth
     complete-both (both a b) r w st =
         let y : List ℕ = M .print b ++ r in
@@ -50,4 +50,4 @@ module _ (L M : Lang) where
         go (some a) q k = then a q (M .parse (drop (length (L .print a)) s)) refl k
 
     abbrev pub behind : Lang
-    behind = record { Tree = Both (L .Tree) (M .Tree); print = printBoth (L .print) (M .print); Wf = WfBoth (L .Wf) (M .Wf); Stop = M .Stop; parse = parseBoth; complete = complete-both; sound = sound-both }
+    behind = record { Tree = Both (L .Tree) (M .Tree); print = printBoth (L .print) (M .print); Wf = WfBoth (L .Wf) (M .Wf); Follows = M .Follows; parse = parseBoth; complete = complete-both; sound = sound-both }

@@ -14,7 +14,7 @@ use Rattle.lang.specs.Lang.{Lang}
 use Rattle.lang.specs.IntervalLang.{interval}
 use Rattle.lang.specs.Canon.{Canon, Right, Covered, mapO, map-some, bothO, both-some}
 
-module _ (L : Lang) (may-join : (r : List ℕ) → L .Stop (ascii "_" ++ r)) (C : Canon L) (eq : C .Value → C .Value → Bool) (eq-true : (v w : C .Value) → eq v w ≡ true → v ≡ w) (eq-refl : (v : C .Value) → eq v v ≡ true) where
+module _ (L : Lang) (may-join : (r : List ℕ) → L .Follows (ascii "_" ++ r)) (C : Canon L) (eq : C .Value → C .Value → Bool) (eq-true : (v w : C .Value) → eq v w ≡ true → v ≡ w) (eq-refl : (v : C .Value) → eq v v ≡ true) where
   abbrev pub canonInterval : Both (C .Value) (C .Value) → Option (Interval (L .Tree))
   canonInterval (both v w) = cond (eq v w) (mapO one (C .canon v)) (bothO two (C .canon v) (C .canon w))
 

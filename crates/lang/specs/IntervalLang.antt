@@ -28,18 +28,18 @@ module _ (L : Lang) where
   unfoldable pub parseInterval : List ℕ → Option (Interval (L .Tree))
   parseInterval s = firstOf s (L .parse s)
 
-  pub record StopInterval (r : List ℕ) : Type 0 where
-    pub stop : L .Stop r
+  pub record FollowsInterval (r : List ℕ) : Type 0 where
+    pub follows : L .Follows r
     pub no-bar : starts (ascii "_") r ≡ false
 
-  module _ (may-join : (r : List ℕ) → L .Stop (ascii "_" ++ r)) where
-    pub complete-interval : (t : Interval (L .Tree)) (r : List ℕ) → WfInterval (L .Wf) t → StopInterval r → parseInterval (printInterval (L .print) t ++ r) ≡ some t
+  module _ (may-join : (r : List ℕ) → L .Follows (ascii "_" ++ r)) where
+    pub complete-interval : (t : Interval (L .Tree)) (r : List ℕ) → WfInterval (L .Wf) t → FollowsInterval r → parseInterval (printInterval (L .print) t ++ r) ≡ some t
     unfolding parseInterval starts
-    complete-interval (one a) r w st = rw (L .complete a r w (st .stop), drop-append-seam (L .print a) r, st .no-bar)
+    complete-interval (one a) r w st = rw (L .complete a r w (st .follows), drop-append-seam (L .print a) r, st .no-bar)
     complete-interval (two a b) r w st =
         let y : List ℕ = L .print b ++ r in
         let e : (L .print a ++ (ascii "_" ++ L .print b)) ++ r ≡ L .print a ++ (ascii "_" ++ y) = append-assoc (L .print a) (ascii "_" ++ L .print b) r in
-        rw (e, L .complete a (ascii "_" ++ y) (w .0) (may-join y), drop-append-seam (L .print a) (ascii "_" ++ y), L .complete b r (w .1) (st .stop))
+        rw (e, L .complete a (ascii "_" ++ y) (w .0) (may-join y), drop-append-seam (L .print a) (ascii "_" ++ y), L .complete b r (w .1) (st .follows))
 
     pub sound-interval : (s : List ℕ) (t : Interval (L .Tree)) → parseInterval s ≡ some t → Front (printInterval (L .print)) (WfInterval (L .Wf)) s t
     unfolding parseInterval
@@ -70,4 +70,4 @@ module _ (L : Lang) where
         go (some a) q k = then a q (starts (ascii "_") (L .sound s a q .after)) refl (rw (rest-is L s a q) at k)
 
     abbrev pub interval : Lang
-    interval = record { Tree = Interval (L .Tree); print = printInterval (L .print); Wf = WfInterval (L .Wf); Stop = StopInterval; parse = parseInterval; complete = complete-interval; sound = sound-interval }
+    interval = record { Tree = Interval (L .Tree); print = printInterval (L .print); Wf = WfInterval (L .Wf); Follows = FollowsInterval; parse = parseInterval; complete = complete-interval; sound = sound-interval }

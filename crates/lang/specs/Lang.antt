@@ -25,9 +25,9 @@ pub record Lang : Type 1 where
   pub Tree : Type 0
   pub print : Tree → List ℕ
   pub Wf : Tree → Type 0
-  pub Stop : List ℕ → Type 0
+  pub Follows : List ℕ → Type 0
   pub parse : List ℕ → Option Tree
-  pub complete : (t : Tree) (r : List ℕ) → Wf t → Stop r → parse (print t ++ r) ≡ some t
+  pub complete : (t : Tree) (r : List ℕ) → Wf t → Follows r → parse (print t ++ r) ≡ some t
   pub sound : (s : List ℕ) (t : Tree) → parse s ≡ some t → Front print Wf s t
 
 -- what every language has
@@ -42,7 +42,7 @@ module _ (L : Lang) where
   within s t e = front-within (L .sound s t e)
 
   -- a text that is a tree's alone
-  module _ (end : L .Stop []) where
+  module _ (end : L .Follows []) where
     pub parse-print : (t : L .Tree) → L .Wf t → L .parse (L .print t) ≡ some t
     parse-print t w = rw append-nil at (L .complete t [] w end)
 

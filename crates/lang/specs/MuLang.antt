@@ -28,10 +28,10 @@ module _ (L : Lang) where
   -- no text of the language starts with a bracket, and a closing one may follow
   pub record Brackets : Type 0 where
     pub no-open : (t : L .Tree) (r : List ℕ) → L .Wf t → starts (ascii "(") (L .print t ++ r) ≡ false
-    pub may-close : (r : List ℕ) → L .Stop (ascii ")" ++ r)
+    pub may-close : (r : List ℕ) → L .Follows (ascii ")" ++ r)
 
   module _ (br : Brackets) where
-    pub complete-mu : (t : Mu (L .Tree)) (r : List ℕ) → WfMu (L .Wf) t → L .Stop r → parseMu (printMu (L .print) t ++ r) ≡ some t
+    pub complete-mu : (t : Mu (L .Tree)) (r : List ℕ) → WfMu (L .Wf) t → L .Follows r → parseMu (printMu (L .print) t ++ r) ≡ some t
     unfolding parseMu starts
     complete-mu (certain t) r w st = rw (br .no-open t r w, L .complete t r w st)
     complete-mu (uncertain t) r w st =
@@ -75,4 +75,4 @@ module _ (L : Lang) where
         go false e = plain (L .parse s) refl (rw (e, parseMu) at h)
 
     abbrev pub mu : Lang
-    mu = record { Tree = Mu (L .Tree); print = printMu (L .print); Wf = WfMu (L .Wf); Stop = L .Stop; parse = parseMu; complete = complete-mu; sound = sound-mu }
+    mu = record { Tree = Mu (L .Tree); print = printMu (L .print); Wf = WfMu (L .Wf); Follows = L .Follows; parse = parseMu; complete = complete-mu; sound = sound-mu }

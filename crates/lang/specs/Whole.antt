@@ -35,6 +35,6 @@ module _ (L : Lang) where
           let j : u ≡ t = cc in
           rw (← j) (f .wf, nothing-behind (L .print u) (f .after) s (f .text) (eqb-true (length (L .print u)) (length s) (c .0)))
 
-  pub whole-complete : L .Stop [] → (t : L .Tree) → L .Wf t → whole (L .print t) ≡ some t
+  pub whole-complete : L .Follows [] → (t : L .Tree) → L .Wf t → whole (L .print t) ≡ some t
   unfolding whole
   whole-complete end t w = rw (parse-print L end t w, eq-eqb (length (L .print t)) (length (L .print t)) refl)

@@ -16,7 +16,7 @@ use Rattle.number.specs.declared.Sign.the-variants.{Plain, Minus}
 use Rattle.number.specs.Digits.{val, dec}
 use Rattle.number.specs.Decimals.{dec-best}
 use Rattle.number.specs.Reading.{signed, most, fits}
-use Rattle.number.specs.Signs.{saturated-fit}
+use Rattle.number.specs.Signs.{or-zero-fit}
 use Rattle.number.specs.Written.{Written, digitsOf, unsignedDigits, digits-written, unsigned-written, digits-found, unsigned-found}
 use Rattle.residue.specs.Residues.{isResidue}
 use Rattle.record.specs.declared.Kind.{Kind}
@@ -72,10 +72,10 @@ offset-covers : (u : Offset) → WfOffset u → (k : ℕ) → misfit (offsetNumb
 offset-covers absent w k f = record { tree = absent; found = refl; best = best-refl }
 offset-covers (ahead ds) w k f =
     let h = one-fits (k + 1) Plain ds f in
-    record { tree = ahead (dec (val ds)); found = rw (saturated-fit Plain (val ds) h, digits-found Plain (val ds) h); best = best-behind (ascii "+") (dec-best w refl) }
+    record { tree = ahead (dec (val ds)); found = rw (or-zero-fit Plain (val ds) h, digits-found Plain (val ds) h); best = best-behind (ascii "+") (dec-best w refl) }
 offset-covers (back ds) w k f =
     let h = one-fits (k + 1) Minus ds f in
-    rw (saturated-fit Minus (val ds) h) (back-covers ds (val ds) w refl h)
+    rw (or-zero-fit Minus (val ds) h) (back-covers ds (val ds) w refl h)
 
 -- ---- c, n, r
 record BaseRight (from : CdsFrom) (z : ℤ) (base : Offset → Based) : Type 0 where
@@ -123,9 +123,9 @@ minus-covers ds zero w e h = record { mark = bare; text = dec 0; found = refl; b
 minus-covers ds (suc v) w e h = record { mark = minus; text = dec (suc v); found = rw (le-leb (suc v) (most Minus) h); best = best-behind (ascii "-") (dec-best w e) }
 
 base-covers : (m : Mark) (ds : List ℕ) → Digits ds → val ds ≤ most (signOf m) → BaseCovered (fromOf m) (number (signOf m) ds) m ds
-base-covers bare ds w h = record { mark = bare; text = dec (val ds); found = rw (saturated-fit Plain (val ds) h, digits-found Plain (val ds) h); best = dec-best w refl }
-base-covers plus ds w h = record { mark = bare; text = dec (val ds); found = rw (saturated-fit Plain (val ds) h, digits-found Plain (val ds) h); best = best-more (code "+") (dec-best w refl) }
-base-covers minus ds w h = rw (saturated-fit Minus (val ds) h) (minus-covers ds (val ds) w refl h)
+base-covers bare ds w h = record { mark = bare; text = dec (val ds); found = rw (or-zero-fit Plain (val ds) h, digits-found Plain (val ds) h); best = dec-best w refl }
+base-covers plus ds w h = record { mark = bare; text = dec (val ds); found = rw (or-zero-fit Plain (val ds) h, digits-found Plain (val ds) h); best = best-more (code "+") (dec-best w refl) }
+base-covers minus ds w h = rw (or-zero-fit Minus (val ds) h) (minus-covers ds (val ds) w refl h)
 base-covers star ds w h = record { mark = star; text = dec (val ds); found = rw (unsigned-found (val ds) h); best = best-behind (ascii "*") (dec-best w refl) }
 
 record BasedCovered (p : CdsPos) (u : Based) : Type 0 where

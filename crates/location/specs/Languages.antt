@@ -20,35 +20,35 @@ use Rattle.grammar.specs.Positions.{Mark.bare, Mark.plus, Mark.minus, Mark.star
 use Rattle.grammar.specs.Shapes.{Interval.one, Interval.two}
 use Rattle.grammar.specs.Bodies.{Ends, printEnds, WfEnds}
 use Rattle.lang.specs.Lang.{Lang}
-use Rattle.lang.specs.IntervalLang.{interval, StopInterval}
+use Rattle.lang.specs.IntervalLang.{interval, FollowsInterval}
 use Rattle.lang.specs.MuLang.{mu, Brackets}
 use Rattle.location.specs.Parse.{parseOffset, parsePosition}
-use Rattle.location.specs.Sound.{Stop, completePosition, soundPosition}
+use Rattle.location.specs.Sound.{Follows, completePosition, soundPosition}
 
 abbrev pub posLang : Kind → Lang
-posLang k = record { Tree = Position k; print = printPosition k; Wf = WfPosition k; Stop = Stop; parse = parsePosition k; complete = completePosition k; sound = soundPosition k }
+posLang k = record { Tree = Position k; print = printPosition k; Wf = WfPosition k; Follows = Follows; parse = parsePosition k; complete = completePosition k; sound = soundPosition k }
 
 -- ---- what may follow a position
-pub stop-nil : Stop []
+pub follows-nil : Follows []
 unfolding run parseOffset starts
-stop-nil = record { no-digit = refl; no-offset = refl }
+follows-nil = record { no-digit = refl; no-offset = refl }
 
 -- a byte that is none of some does not start as one of them
 starts-among : (xs : List ℕ) (c : ℕ) → among c xs ≡ true → (b : ℕ) (r : List ℕ) → among b xs ≡ false → starts (c ∷ []) (b ∷ r) ≡ false
 unfolding starts
 starts-among xs c i b r n = never (eqb c b && true) (λ q. clash (rw (eqb-true c b (and-true (eqb c b) true q .0)) at i) n)
 
-stop-first : (b : ℕ) (r : List ℕ) → digit b ≡ false → starts (ascii "+") (b ∷ r) ≡ false → starts (ascii "-") (b ∷ r) ≡ false → Stop (b ∷ r)
+follows-first : (b : ℕ) (r : List ℕ) → digit b ≡ false → starts (ascii "+") (b ∷ r) ≡ false → starts (ascii "-") (b ∷ r) ≡ false → Follows (b ∷ r)
 unfolding parseOffset
-stop-first b r d p m = record { no-digit = run-first digit b r d; no-offset = rw (p, m) }
+follows-first b r d p m = record { no-digit = run-first digit b r d; no-offset = rw (p, m) }
 
 -- a byte that is no digit and no sign
-pub stop-at : (b : ℕ) (r : List ℕ) → digit b ≡ false → among b (ascii "+-") ≡ false → Stop (b ∷ r)
-stop-at b r d n = stop-first b r d (starts-among (ascii "+-") (code "+") refl b r n) (starts-among (ascii "+-") (code "-") refl b r n)
+pub follows-at : (b : ℕ) (r : List ℕ) → digit b ≡ false → among b (ascii "+-") ≡ false → Follows (b ∷ r)
+follows-at b r d n = follows-first b r d (starts-among (ascii "+-") (code "+") refl b r n) (starts-among (ascii "+-") (code "-") refl b r n)
 
-pub may-join : (r : List ℕ) → Stop (ascii "_" ++ r)
+pub may-join : (r : List ℕ) → Follows (ascii "_" ++ r)
 unfolding digit
-may-join r = stop-at (code "_") r refl refl
+may-join r = follows-at (code "_") r refl refl
 
 abbrev pub endsLang : Kind → Lang
 endsLang k = interval (posLang k) may-join
@@ -57,9 +57,9 @@ endsLang k = interval (posLang k) may-join
 module _ (k : Kind) where
   module _ (b : ℕ) (r : List ℕ) where
     -- a byte that is no digit, no sign and no `_`
-    pub ends-stop-at : digit b ≡ false → among b (ascii "+-_") ≡ false → StopInterval (posLang k) (b ∷ r)
-    ends-stop-at d n = record {
-      stop = stop-first b r d (starts-among (ascii "+-_") (code "+") refl b r n) (starts-among (ascii "+-_") (code "-") refl b r n);
+    pub ends-follows-at : digit b ≡ false → among b (ascii "+-_") ≡ false → FollowsInterval (posLang k) (b ∷ r)
+    ends-follows-at d n = record {
+      follows = follows-first b r d (starts-among (ascii "+-_") (code "+") refl b r n) (starts-among (ascii "+-_") (code "-") refl b r n);
       no-bar = starts-among (ascii "+-_") (code "_") refl b r n;
     }
 
@@ -96,7 +96,7 @@ ends-open k (two p q) r w = rw (append-assoc (printPosition k p) (ascii "_" ++ p
 
 pub brackets : (k : Kind) → Brackets (endsLang k)
 unfolding digit
-brackets k = record { no-open = ends-open k; may-close = λ r. ends-stop-at k (code ")") r refl refl }
+brackets k = record { no-open = ends-open k; may-close = λ r. ends-follows-at k (code ")") r refl refl }
 
 abbrev pub locationLang : Kind → Lang
 locationLang k = mu (endsLang k) (brackets k)

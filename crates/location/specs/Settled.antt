@@ -12,7 +12,7 @@ use Rattle.texts.specs.Words.{same}
 use Rattle.number.specs.declared.Sign.the-variants.{Plain, Minus}
 use Rattle.number.specs.Digits.{val}
 use Rattle.number.specs.Reading.{most, isPlain}
-use Rattle.number.specs.Signs.{saturated-fit}
+use Rattle.number.specs.Signs.{or-zero-fit}
 use Rattle.number.specs.Plain.{plain-found, unsigned-plain, minus-plain}
 use Rattle.record.specs.declared.Kind.{Kind}
 use Rattle.record.specs.declared.Kind.the-variants.{Cds, Genome, Mt, Tx, Prot, Rna}
@@ -78,13 +78,13 @@ settled-offset : (k : ℕ) (o : Offset) → WfOffset o → misfit (offsetNumbers
 settled-offset k absent w f p = refl
 settled-offset k (ahead ds) w f p =
     let h = one-fits (k + 1) Plain ds f in
-    rw (saturated-fit Plain (val ds) h, plain-found ds w Plain h (one-plain (k + 1) Plain ds p))
+    rw (or-zero-fit Plain (val ds) h, plain-found ds w Plain h (one-plain (k + 1) Plain ds p))
 settled-offset k (back ds) w f p =
     let m = minus-plain ds w (one-fits (k + 1) Minus ds f) (one-plain (k + 1) Minus ds p) in
     rw (m .value, m .found)
 
 settled-base : (m : Mark) (ds : List ℕ) → Digits ds → val ds ≤ most (signOf m) → isPlain (signOf m) ds ≡ true → plainMark m ≡ true → canonBase (fromOf m) (number (signOf m) ds) ≡ some (marked m ds)
-settled-base bare ds w h p e = rw (saturated-fit Plain (val ds) h, plain-found ds w Plain h p)
+settled-base bare ds w h p e = rw (or-zero-fit Plain (val ds) h, plain-found ds w Plain h p)
 settled-base plus ds w h p e = absurd (clash e refl)
 settled-base minus ds w h p e = let m = minus-plain ds w h p in rw (m .value, m .found)
 settled-base star ds w h p e = rw (unsigned-plain ds w h p)

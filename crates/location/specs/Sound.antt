@@ -25,7 +25,7 @@ use Rattle.lang.specs.Lang.{Front}
 use Rattle.location.specs.Parse.{onDigits, parseMark, parseOffset, parseBased, parseUnstarred, parseGenomic, parseResidual, parsePosition}
 
 -- what may follow a position: no digit, and no sign with a digit behind it
-pub record Stop (r : List ℕ) : Type 0 where
+pub record Follows (r : List ℕ) : Type 0 where
   pub no-digit : run digit r ≡ 0
   pub no-offset : parseOffset r ≡ absent
 
@@ -70,7 +70,7 @@ mark-split s = go (starts (ascii "+") s) (starts (ascii "-") s) (starts (ascii "
     go false false false hp hm he = rw (hp, hm, he, parseMark)
 
 -- ---- offsets
-offset-is : (o : Offset) (r : List ℕ) → WfOffset o → Stop r → parseOffset (printOffset o ++ r) ≡ o
+offset-is : (o : Offset) (r : List ℕ) → WfOffset o → Follows r → parseOffset (printOffset o ++ r) ≡ o
 unfolding parseOffset starts
 offset-is absent r w st = st .no-offset
 offset-is (ahead ds) r w st = digits-is absent ahead ds r w (st .no-digit)
@@ -107,7 +107,7 @@ offset-sound s = go (starts (ascii "+") s) (starts (ascii "-") s) refl refl
     go false false hp hm = rw (hp, hm, parseOffset) (record { wf = tt; after = s; text = refl })
 
 -- ---- c, n, r
-complete-based : (t : Based) (r : List ℕ) → WfBased t → Stop r → parseBased (printBased t ++ r) ≡ some t
+complete-based : (t : Based) (r : List ℕ) → WfBased t → Follows r → parseBased (printBased t ++ r) ≡ some t
 unfolding parseBased
 complete-based (based m ds o) r w st =
     let y : List ℕ = printOffset o ++ r in
@@ -141,7 +141,7 @@ unstarred-start (based plus ds o) r w = refl
 unstarred-start (based minus ds o) r w = refl
 unstarred-start (based star ds o) r w = absurd (w .0)
 
-complete-unstarred : (t : Based) (r : List ℕ) → WfUnstarred t → Stop r → parseUnstarred (printBased t ++ r) ≡ some t
+complete-unstarred : (t : Based) (r : List ℕ) → WfUnstarred t → Follows r → parseUnstarred (printBased t ++ r) ≡ some t
 unfolding parseUnstarred
 complete-unstarred (based m ds o) r w st = rw (unstarred-start (based m ds o) r w) (complete-based (based m ds o) r (w .1) st)
 
@@ -160,7 +160,7 @@ sound-unstarred s t h = go (starts (ascii "*") s) refl
     go false e = unstarred t (sound-based s t (rw (e, parseUnstarred) at h)) e
 
 -- ---- g, m
-complete-genomic : (t : Genomic) (r : List ℕ) → WfGenomic t → Stop r → parseGenomic (printGenomic t ++ r) ≡ some t
+complete-genomic : (t : Genomic) (r : List ℕ) → WfGenomic t → Follows r → parseGenomic (printGenomic t ++ r) ≡ some t
 unfolding parseGenomic starts run digit
 complete-genomic (known ds) r w st = digits-is _ (λ x. some (known x)) ds r w (st .no-digit)
 complete-genomic unknown r w st = digits-none _ (λ x. some (known x)) (printGenomic unknown ++ r) refl
@@ -181,7 +181,7 @@ sound-genomic s t h = digits-cases _ (λ x. some (known x)) s (some t) h mark di
         rw (← j) (record { wf = w; after = behind digit s; text = front-behind digit s })
 
 -- ---- p
-complete-residual : (t : Residual) (r : List ℕ) → WfResidual t → Stop r → parseResidual (printResidual t ++ r) ≡ some t
+complete-residual : (t : Residual) (r : List ℕ) → WfResidual t → Follows r → parseResidual (printResidual t ++ r) ≡ some t
 unfolding parseResidual
 complete-residual (residual a ds) r w st =
     let e : (a ++ ds) ++ r ≡ a ++ (ds ++ r) = append-assoc a ds r in
@@ -206,7 +206,7 @@ sound-residual s t h = go (eqb (residueLen s) 0) refl
     go false e = digits-cases none (λ x. some (residual a x)) y (some t) (rw (e, parseResidual) at h) (λ n. absurd (none-some n)) (λ w q. let j : residual a (front digit y) ≡ t = cc in rw (← j) (found (residue-sound s (eqb-false _ _ e)) w))
 
 -- ---- every kind
-pub completePosition : (k : Kind) (t : Position k) (r : List ℕ) → WfPosition k t → Stop r → parsePosition k (printPosition k t ++ r) ≡ some t
+pub completePosition : (k : Kind) (t : Position k) (r : List ℕ) → WfPosition k t → Follows r → parsePosition k (printPosition k t ++ r) ≡ some t
 completePosition Cds = complete-based
 completePosition Genome = complete-genomic
 completePosition Mt = complete-genomic

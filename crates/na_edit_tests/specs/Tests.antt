@@ -21,5 +21,5 @@ module _ (s : List ℕ) where
   abbrev pub sameParts : Span → Span → Bool
   sameParts p q = same (part s p) (part s q)
 
-  abbrev pub onesParts : Span → Span → Bool
-  onesParts p q = oneEach (part s p) (part s q)
+  abbrev pub oneEachParts : Span → Span → Bool
+  oneEachParts p q = oneEach (part s p) (part s q)

@@ -6,7 +6,7 @@ ghost use lib.Dec.{leb};
 ghost use lib.ListN.{length};
 ghost use Rattle.alphabet.specs.Cells.{IsTable};
 ghost use Rattle.grammar.specs.Spans.{part};
-ghost use Rattle.na_edit_tests.specs.Tests.{isSeq, isSeq1, sameParts, onesParts};
+ghost use Rattle.na_edit_tests.specs.Tests.{isSeq, isSeq1, sameParts, oneEachParts};
 
 // Zero or more letters.
 pub fn is_seq(table: &[u8; 256], source: &[u8], p: Span) -> bool
@@ -41,8 +41,8 @@ pub fn same_parts(source: &[u8], p: Span, q: Span) -> bool
 }
 
 // One byte each.
-pub fn ones_parts(source: &[u8], p: Span, q: Span) -> bool
-    ensures { λ r. ⌜ r ≡ onesParts (now (source .entry)) p q ⌝ }
+pub fn one_each_parts(source: &[u8], p: Span, q: Span) -> bool
+    ensures { λ r. ⌜ r ≡ oneEachParts (now (source .entry)) p q ⌝ }
 {
     if emit_piece::part_len(source, p) == 1 {
         return emit_piece::part_len(source, q) == 1;

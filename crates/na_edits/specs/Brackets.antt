@@ -18,7 +18,7 @@ use Rattle.grammar.specs.NucleotideEdits.{NaEdit, NaEdit.equal, NaEdit.swap, Na
 use Rattle.lang.specs.Lang.{Lang}
 use Rattle.lang.specs.MuLang.{Brackets, mu}
 use Rattle.na_edits.specs.Alphabet.{Alphabet}
-use Rattle.na_edits.specs.Sound.{stop-close, naEditLang}
+use Rattle.na_edits.specs.Sound.{follows-close, naEditLang}
 
 -- a letter or `=`
 abbrev Opening : ℕ → Type 0
@@ -58,7 +58,7 @@ module _ (na : ℕ → Bool) (al : Alphabet na) where
   opening (inv seq) r w = starts-with (code "i") _ (inl refl)
 
   pub brackets : Brackets (naEditLang na al)
-  brackets = record { no-open = λ t r w. opening-bracket (printNaEdit t ++ r) (opening t r w); may-close = stop-close na al }
+  brackets = record { no-open = λ t r w. opening-bracket (printNaEdit t ++ r) (opening t r w); may-close = follows-close na al }
 
   abbrev pub muNaEditLang : Lang
   muNaEditLang = mu (naEditLang na al) brackets

@@ -23,24 +23,24 @@ use Rattle.na_edits.specs.Choice.{onSome, if-holds, word-holds, on-some,
 use Rattle.na_edits.specs.Parse.{parseIdent, parseSubst, inserted, afterDelNum, afterDel, afterInv, parseDel, parseIns, parseDup, parseInv, parseNaEdit}
 
 -- what may follow an edit: no letter, no digit, no `ins`
-pub record Stop (na : ℕ → Bool) (r : List ℕ) : Type 0 where
+pub record Follows (na : ℕ → Bool) (r : List ℕ) : Type 0 where
   pub no-letter : run na r ≡ 0
   pub no-digit : run digit r ≡ 0
   pub no-ins : starts (ascii "ins") r ≡ false
 
-pub stop-nil : (na : ℕ → Bool) → Stop na []
+pub follows-nil : (na : ℕ → Bool) → Follows na []
 unfolding starts
-stop-nil na = record { no-letter = run-nil na; no-digit = run-nil digit; no-ins = refl }
+follows-nil na = record { no-letter = run-nil na; no-digit = run-nil digit; no-ins = refl }
 
 -- a byte that is neither letter nor digit, and not the `i` of `ins`
-pub stop-byte : (na : ℕ → Bool) (b : ℕ) (r : List ℕ) → na b ≡ false → digit b ≡ false → (b ≡ code "i" → ⊥) → Stop na (b ∷ r)
+pub follows-byte : (na : ℕ → Bool) (b : ℕ) (r : List ℕ) → na b ≡ false → digit b ≡ false → (b ≡ code "i" → ⊥) → Follows na (b ∷ r)
 unfolding starts
-stop-byte na b r l d n = record { no-letter = run-first na b r l; no-digit = run-first digit b r d; no-ins = rw (ne-eqb (code "i") b (λ e. n (sym e))) }
+follows-byte na b r l d n = record { no-letter = run-first na b r l; no-digit = run-first digit b r d; no-ins = rw (ne-eqb (code "i") b (λ e. n (sym e))) }
 
 module _ (na : ℕ → Bool) (al : Alphabet na) where
-  pub stop-close : (r : List ℕ) → Stop na (ascii ")" ++ r)
+  pub follows-close : (r : List ℕ) → Follows na (ascii ")" ++ r)
   unfolding letter digit
-  stop-close r = stop-byte na (code ")") r (outside na al (code ")") refl) refl (λ e. omega arith)
+  follows-close r = follows-byte na (code ")") r (outside na al (code ")") refl) refl (λ e. omega arith)
 
   -- ---- complete
   letters-digits : (a r : List ℕ) → every na a ≡ true → run digit r ≡ 0 → run digit (a ++ r) ≡ 0
@@ -112,13 +112,13 @@ module _ (na : ℕ → Bool) (al : Alphabet na) where
       rw (e, inserted-none (ds ++ y) (digits-word ds y w), front-is digit ds y (w .all) d, behind-is digit ds y (w .all) d)
       (on-some _ (λ ds. afterDelNum na ds y) ds (w .some))
 
-  inv-letters : (a r : List ℕ) → every na a ≡ true → Stop na r → afterInv na (a ++ r) ≡ inv a
+  inv-letters : (a r : List ℕ) → every na a ≡ true → Follows na r → afterInv na (a ++ r) ≡ inv a
   unfolding afterInv onSome every
   inv-letters a r h st =
       let e : front digit (a ++ r) ≡ [] = front-is digit [] (a ++ r) refl (letters-digits a r h (st .no-digit)) in
       rw (e, front-is na a r h (st .no-letter))
 
-  inv-digits : (ds r : List ℕ) → Digits ds → Stop na r → afterInv na (ds ++ r) ≡ invNum ds
+  inv-digits : (ds r : List ℕ) → Digits ds → Follows na r → afterInv na (ds ++ r) ≡ invNum ds
   unfolding afterInv
   inv-digits ds r w st = rw (front-is digit ds r (w .all) (st .no-digit)) (on-some _ invNum ds (w .some))
 
@@ -136,7 +136,7 @@ module _ (na : ℕ → Bool) (al : Alphabet na) where
   unfolding parseNaEdit parseIdent parseSubst letter every
   swap-is a b r ha hb = rw (no-equal (a ∷ []) (code ">") (b ∷ r) (rw (letter-no-equal a ha)) (outside na al (code ">") refl), ha, hb)
 
-  pub complete : (t : NaEdit) (r : List ℕ) → WfNaEdit na t → Stop na r → parseNaEdit na (printNaEdit t ++ r) ≡ some t
+  pub complete : (t : NaEdit) (r : List ℕ) → WfNaEdit na t → Follows na r → parseNaEdit na (printNaEdit t ++ r) ≡ some t
   unfolding onSome parseIns
   complete (equal seq) r w st = rw (append-assoc seq (ascii "=") r) (equal-is seq r w)
   complete (swap a b) r w st = swap-is a b r (w .0) (w .1)
@@ -266,4 +266,4 @@ module _ (na : ℕ → Bool) where
 
 module _ (na : ℕ → Bool) (al : Alphabet na) where
   abbrev pub naEditLang : Lang
-  naEditLang = record { Tree = NaEdit; print = printNaEdit; Wf = WfNaEdit na; Stop = Stop na; parse = parseNaEdit na; complete = complete na al; sound = sound na }
+  naEditLang = record { Tree = NaEdit; print = printNaEdit; Wf = WfNaEdit na; Follows = Follows na; parse = parseNaEdit na; complete = complete na al; sound = sound na }

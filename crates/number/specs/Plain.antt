@@ -16,8 +16,8 @@ use Rattle.texts.specs.Words.{starts}
 use Rattle.alphabet.specs.Letters.{digit}
 use Rattle.number.specs.Digits.{val, decUpTo, dec}
 use Rattle.number.specs.Decimals.{dec-is}
-use Rattle.number.specs.Reading.{signed, most, saturated, mayBeZero, isPlain}
-use Rattle.number.specs.Signs.{saturated-fit}
+use Rattle.number.specs.Reading.{signed, most, orZero, mayBeZero, isPlain}
+use Rattle.number.specs.Signs.{or-zero-fit}
 use Rattle.number.specs.Written.{digitsOf, unsignedDigits, digits-found, unsigned-found}
 use Rattle.number.specs.declared.Sign.{Sign}
 use Rattle.number.specs.declared.Sign.the-variants.{Plain, Minus}
@@ -44,13 +44,13 @@ module _ (ds : List ℕ) (d : Some digit ds) where
   pub plain-found : (sign : Sign) → val ds ≤ most sign → isPlain sign ds ≡ true → digitsOf sign (val ds) ≡ some ds
   plain-found sign h p = digits-found sign (val ds) h ∙ ap some (plain-dec sign ds d p)
 
-  pub unsigned-plain : val ds ≤ most Plain → isPlain Plain ds ≡ true → unsignedDigits (saturated Plain (val ds)) ≡ some ds
+  pub unsigned-plain : val ds ≤ most Plain → isPlain Plain ds ≡ true → unsignedDigits (orZero Plain (val ds)) ≡ some ds
   unsigned-plain h p = unsigned-found (val ds) h ∙ ap some (plain-dec Plain ds d p)
 
 -- with a minus they are below 0
 pub record Below (ds : List ℕ) : Type 0 where
   pub less : ℕ
-  pub value : saturated Minus (val ds) ≡ negsuc less
+  pub value : orZero Minus (val ds) ≡ negsuc less
   pub found : digitsOf Minus (suc less) ≡ some ds
 
 pub minus-plain : (ds : List ℕ) → Some digit ds → val ds ≤ most Minus → isPlain Minus ds ≡ true → Below ds
@@ -58,4 +58,4 @@ minus-plain ds d h p = go (val ds) refl
   where
     go : (v : ℕ) → val ds ≡ v → Below ds
     go zero e = absurd (minus-some ds d p e)
-    go (suc v) e = record { less = v; value = saturated-fit Minus (val ds) h ∙ ap (signed Minus) e; found = rw (← e) (plain-found ds d Minus h p) }
+    go (suc v) e = record { less = v; value = or-zero-fit Minus (val ds) h ∙ ap (signed Minus) e; found = rw (← e) (plain-found ds d Minus h p) }

@@ -30,8 +30,8 @@ abbrev pub fits : Sign → ℕ → Bool
 fits sign v = leb v (most sign)
 
 -- the number where it fits, and else 0
-unfoldable pub saturated : Sign → ℕ → ℤ
-saturated sign v = cond (fits sign v) (signed sign v) (pos 0)
+unfoldable pub orZero : Sign → ℕ → ℤ
+orZero sign v = cond (fits sign v) (signed sign v) (pos 0)
 
 -- whether 0 is plainly spelled with the sign
 abbrev pub mayBeZero : Sign → Bool
@@ -51,7 +51,7 @@ isPlain sign ds = plainly (length ds) sign (zeroFirst ds)
 
 -- n digits of the value v
 unfoldable pub numberOf : ℕ → Sign → ℕ → Bool → Number
-numberOf n sign v zero = record { len = n; value = saturated sign v; fits = fits sign v; plain = plainly n sign zero }
+numberOf n sign v zero = record { len = n; value = orZero sign v; fits = fits sign v; plain = plainly n sign zero }
 
 unfoldable pub numberAt : Sign → List ℕ → Number
 numberAt sign s = numberOf (run digit s) sign (val (front digit s)) (zeroFirst (front digit s))

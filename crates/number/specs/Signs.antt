@@ -9,15 +9,15 @@ use borrow.Author.Tests.{le-leb, leb-true}
 use mir.Syntax.{w32}
 use mir.Val.{SFits, toZ, ofZ}
 use mir.Facts.{toZ-ofZ}
-use Rattle.number.specs.Reading.{signed, most, saturated}
+use Rattle.number.specs.Reading.{signed, most, orZero}
 use Rattle.number.specs.declared.Sign.{Sign}
 use Rattle.number.specs.declared.Sign.the-variants.{Plain, Minus, Negated}
 
 -- ---- what is worth the same
 -- the sign with which a number is written
-unfoldable pub signOf : ℤ → Sign
-signOf (pos v) = Plain
-signOf (negsuc v) = Minus
+unfoldable pub writtenSign : ℤ → Sign
+writtenSign (pos v) = Plain
+writtenSign (negsuc v) = Minus
 
 -- ---- what fits: a signed number exactly where an i32 holds it
 minus-fits : (v : ℕ) → v ≤ 2147483648 → SFits w32 (negℤ (pos v))
@@ -37,24 +37,24 @@ most-bound Negated v h = omega arith
 pub plain-most : (v : ℕ) → SFits w32 (signed Plain v) → v ≤ most Plain
 plain-most v h = omega arith
 
-pub sign-most : (z : ℤ) → SFits w32 z → natAbs z ≤ most (signOf z)
-unfolding signOf
+pub sign-most : (z : ℤ) → SFits w32 z → natAbs z ≤ most (writtenSign z)
+unfolding writtenSign
 sign-most (pos v) h = omega arith
 sign-most (negsuc v) h = omega arith
 
 -- ---- the number where it fits, and else 0
-pub saturated-fit : (sign : Sign) (v : ℕ) → v ≤ most sign → saturated sign v ≡ signed sign v
-unfolding saturated
-saturated-fit sign v h = rw (le-leb v (most sign) h)
+pub or-zero-fit : (sign : Sign) (v : ℕ) → v ≤ most sign → orZero sign v ≡ signed sign v
+unfolding orZero
+or-zero-fit sign v h = rw (le-leb v (most sign) h)
 
 -- and the machine holds it
-pub saturated-fits : (sign : Sign) (v : ℕ) → SFits w32 (saturated sign v)
-unfolding saturated
-saturated-fits sign v = go (leb v (most sign)) refl
+pub or-zero-fits : (sign : Sign) (v : ℕ) → SFits w32 (orZero sign v)
+unfolding orZero
+or-zero-fits sign v = go (leb v (most sign)) refl
   where
-    go : (t : Bool) → leb v (most sign) ≡ t → SFits w32 (saturated sign v)
+    go : (t : Bool) → leb v (most sign) ≡ t → SFits w32 (orZero sign v)
     go true e = rw e (signed-fits sign v (leb-true _ _ e))
     go false e = rw e (record { sfits = omega arith })
 
-pub saturated-held : (sign : Sign) (v : ℕ) → toZ w32 (ofZ w32 (saturated sign v)) ≡ saturated sign v
-saturated-held sign v = toZ-ofZ (saturated-fits sign v)
+pub or-zero-held : (sign : Sign) (v : ℕ) → toZ w32 (ofZ w32 (orZero sign v)) ≡ orZero sign v
+or-zero-held sign v = toZ-ofZ (or-zero-fits sign v)

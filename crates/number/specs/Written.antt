@@ -11,8 +11,8 @@ use Rattle.texts.specs.Runs.{Some}
 use Rattle.alphabet.specs.Letters.{digit}
 use Rattle.number.specs.Digits.{val, dec}
 use Rattle.number.specs.Decimals.{dec-value, dec-some}
-use Rattle.number.specs.Reading.{signed, most, fits, saturated}
-use Rattle.number.specs.Signs.{saturated-fit}
+use Rattle.number.specs.Reading.{signed, most, fits, orZero}
+use Rattle.number.specs.Signs.{or-zero-fit}
 use Rattle.number.specs.declared.Sign.{Sign}
 use Rattle.number.specs.declared.Sign.the-variants.{Plain, Negated}
 
@@ -35,14 +35,14 @@ negatedDigits (negsuc v) = digitsOf Negated (suc v)
 pub record Written (sign : Sign) (z : ℤ) (ds : List ℕ) : Type 0 where
   pub digits : Some digit ds
   pub fit : val ds ≤ most sign
-  pub value : saturated sign (val ds) ≡ z
+  pub value : orZero sign (val ds) ≡ z
 
 pub digits-written : (sign : Sign) (v : ℕ) (ds : List ℕ) → digitsOf sign v ≡ some ds → Written sign (signed sign v) ds
 digits-written sign v ds e =
     let h = cond-some (fits sign v) (some (dec v)) ds e in
     let l : v ≤ most sign = leb-true v (most sign) (h .0) in
     let j : dec v ≡ ds = cc (h .1) in
-    rw (← j) (record { digits = dec-some v; fit = rw (dec-value v) l; value = rw (dec-value v) (saturated-fit sign v l) })
+    rw (← j) (record { digits = dec-some v; fit = rw (dec-value v) l; value = rw (dec-value v) (or-zero-fit sign v l) })
 
 pub unsigned-written : (z : ℤ) (ds : List ℕ) → unsignedDigits z ≡ some ds → Written Plain z ds
 unsigned-written (pos v) ds e = digits-written Plain v ds e
@@ -57,12 +57,12 @@ negated-written (negsuc v) ds e = digits-written Negated (suc v) ds e
 pub digits-found : (sign : Sign) (v : ℕ) → v ≤ most sign → digitsOf sign v ≡ some (dec v)
 digits-found sign v h = rw (le-leb v (most sign) h)
 
-pub unsigned-found : (v : ℕ) → v ≤ most Plain → unsignedDigits (saturated Plain v) ≡ some (dec v)
-unsigned-found v h = ap unsignedDigits (saturated-fit Plain v h) ∙ digits-found Plain v h
+pub unsigned-found : (v : ℕ) → v ≤ most Plain → unsignedDigits (orZero Plain v) ≡ some (dec v)
+unsigned-found v h = ap unsignedDigits (or-zero-fit Plain v h) ∙ digits-found Plain v h
 
 negated-signed : (v : ℕ) → negatedDigits (signed Negated v) ≡ digitsOf Negated v
 negated-signed zero = refl
 negated-signed (suc v) = refl
 
-pub negated-found : (v : ℕ) → v ≤ most Negated → negatedDigits (saturated Negated v) ≡ some (dec v)
-negated-found v h = ap negatedDigits (saturated-fit Negated v h) ∙ negated-signed v ∙ digits-found Negated v h
+pub negated-found : (v : ℕ) → v ≤ most Negated → negatedDigits (orZero Negated v) ≡ some (dec v)
+negated-found v h = ap negatedDigits (or-zero-fit Negated v h) ∙ negated-signed v ∙ digits-found Negated v h

@@ -10,7 +10,7 @@ use mir.Syntax.{w32}
 use mir.Val.{SFits}
 use Rattle.texts.specs.Tests.{clash}
 use Rattle.number.specs.Reading.{most}
-use Rattle.number.specs.Signs.{signOf, sign-most}
+use Rattle.number.specs.Signs.{writtenSign, sign-most}
 use Rattle.record.specs.declared.Span.{Span}
 use Rattle.record.specs.declared.Offset.{Offset}
 use Rattle.emit_piece.specs.declared.Mark.{Mark}
@@ -21,7 +21,7 @@ use Rattle.plan_location.specs.Plan.{held, heldOffset, offsetSign, offse
 
 pub held-true : {z : ℤ} → SFits w32 z → held z ≡ true
 unfolding held
-held-true {z} f = le-leb (natAbs z) (most (signOf z)) (sign-most z f)
+held-true {z} f = le-leb (natAbs z) (most (writtenSign z)) (sign-most z f)
 
 pub below : (z : ℤ) → ltZ z (pos 0) ≡ true → (n : ℕ) × (z ≡ negsuc n)
 below (pos n) e = absurd (omega (arith, ltb-true n 0 e))

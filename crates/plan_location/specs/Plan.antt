@@ -5,7 +5,7 @@ use mathlib.Core.List.{List}
 use mathlib.Core.Bool.{Bool, true, cond, _&&_}
 use lib.IntN.{ℤ, pos, negsuc, natAbs}
 use Rattle.number.specs.Reading.{fits}
-use Rattle.number.specs.Signs.{signOf}
+use Rattle.number.specs.Signs.{writtenSign}
 use Rattle.residue.specs.Residues.{isResidue}
 use Rattle.record.specs.declared.Span.{Span}
 use Rattle.record.specs.declared.Kind.{Kind}
@@ -32,7 +32,7 @@ use Rattle.plan_location.specs.declared.PlacePlan.the-variants as Places
 
 -- ---- numbers: an i32 holds them, as every number of a record
 unfoldable pub held : ℤ → Bool
-held z = fits (signOf z) (natAbs z)
+held z = fits (writtenSign z) (natAbs z)
 
 abbrev pub heldOffset : Offset → Bool
 heldOffset Absent = true

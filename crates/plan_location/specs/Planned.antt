@@ -12,7 +12,7 @@ use Rattle.number.specs.declared.Sign.{Sign}
 use Rattle.number.specs.declared.Sign.the-variants.{Plain, Minus}
 use Rattle.number.specs.Digits.{dec}
 use Rattle.number.specs.Reading.{fits}
-use Rattle.number.specs.Signs.{signOf}
+use Rattle.number.specs.Signs.{writtenSign}
 use Rattle.residue.specs.Residues.{isResidue}
 use Rattle.record.specs.declared.Span.{Span}
 use Rattle.record.specs.declared.Kind.{Kind}
@@ -68,7 +68,7 @@ offsetText o = markText (offsetSign o) ++ amountText (offsetAmount o)
 
 -- the text of what canon gives, behind a text x
 offset-canon : (x : List ℕ) (o : Declared.Offset) → mapO (λ (t : Offset). x ++ printOffset t) (canonOffset o) ≡ cond (heldOffset o) (some (x ++ offsetText o)) none
-unfolding held signOf
+unfolding held writtenSign
 offset-canon x Absent = refl
 offset-canon x (By (pos v)) = go (fits Plain v) refl
   where
@@ -108,12 +108,12 @@ module _ (s : List ℕ) where
       go false q = rw q
 
   start-text : (z : ℤ) (o : Declared.Offset) → endPlanText s (basedPlan Start z o) ≡ mapO printBased (canonBased Start z o)
-  unfolding held signOf
+  unfolding held writtenSign
   start-text (pos v) o = based-text bare Nothing refl Plain (pos v) refl o
   start-text (negsuc v) o = based-text minus (Byte (code "-")) refl Minus (negsuc v) refl o
 
   from-text : (from : CdsFrom) (z : ℤ) (o : Declared.Offset) → endPlanText s (basedPlan from z o) ≡ mapO printBased (canonBased from z o)
-  unfolding held signOf
+  unfolding held writtenSign
   from-text Start z o = start-text z o
   from-text End (pos v) o = based-text star (Byte (code "*")) refl Plain (pos v) refl o
   from-text End (negsuc v) o = refl
@@ -121,7 +121,7 @@ module _ (s : List ℕ) where
   -- an unsigned number behind a residue or nothing
   unsigned-text : {A : Type 0} (tree : List ℕ → A) (print : A → List ℕ) (r : Span) → ((ds : List ℕ) → print (tree ds) ≡ part s r ++ ds)
       → (z : ℤ) → endPlanText s (unsignedPlan r Nothing z Absent) ≡ mapO print (mapO tree (unsignedDigits z))
-  unfolding held signOf
+  unfolding held writtenSign
   unsigned-text tree print r p (negsuc v) = refl
   unsigned-text tree print r p (pos v) = end-text r Nothing (pos v) Absent ∙ go (fits Plain v) refl
     where

@@ -54,7 +54,7 @@ fn offset_sign(offset: Offset) -> Mark
     }
 }
 
-// And an i32 holds the offset.
+// Said beside the answer: an i32 holds the offset.
 fn offset_amount(offset: Offset) -> Amount
     ensures { λ r. ⌜ (r ≡ offsetAmount offset) × (heldOffset offset ≡ true) ⌝ }
 {

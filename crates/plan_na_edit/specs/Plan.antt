@@ -18,7 +18,7 @@ use Rattle.emit_piece.specs.Texts.{noSpan}
 use Rattle.rows.specs.Rows.{rowIf, lettersRow, wordRow, isUnsigned}
 use Rattle.rows.specs.declared.RowPlan.{RowPlan}
 use Rattle.rows.specs.declared.RowPlan.the-variants.{NoText, Text}
-use Rattle.na_edit_tests.specs.Tests.{isSeq, isSeq1, sameParts, onesParts}
+use Rattle.na_edit_tests.specs.Tests.{isSeq, isSeq1, sameParts, oneEachParts}
 
 -- `del` letters `ins` letters
 abbrev pub delInsRow : Span → Span → Row
@@ -36,7 +36,7 @@ module _ (s : List ℕ) where
   unfoldable pub planChange : Span → Span → RowPlan
   planChange p q =
       cond (sameParts s p q) (Text (lettersRow p Equal noSpan))
-      (cond (onesParts s p q) (Text (lettersRow p Greater q))
+      (cond (oneEachParts s p q) (Text (lettersRow p Greater q))
       (rowIf (leb 1 (length (part s q))) (delInsRow p q)))
 
   unfoldable pub planRefAlt : Span → Span → RowPlan

@@ -29,7 +29,7 @@ use Rattle.emit_row.specs.Texts.{rowText}
 use Rattle.emit_piece.specs.Laws.{no-part}
 use Rattle.rows.specs.Rows.{planText, lettersRow, isUnsigned}
 use Rattle.rows.specs.Laws.{letters-text, word-text, either, row-text, row-if, unsigned-digits}
-use Rattle.na_edit_tests.specs.Tests.{isSeq, isSeq1, sameParts, onesParts}
+use Rattle.na_edit_tests.specs.Tests.{isSeq, isSeq1, sameParts, oneEachParts}
 use Rattle.plan_na_edit.specs.Plan.{delInsRow, countRow, planChange, planRefAlt, planNumAlt, planCount, planNaEdit}
 
 -- ---- the texts of the rows
@@ -52,7 +52,7 @@ module _ (s : List ℕ) where
   equal-text : (p : Span) → rowText s (lettersRow p Equal noSpan) ≡ part s p ++ ascii "="
   equal-text p = letters-text s p Equal noSpan ∙ rw (no-part s)
 
-  swap-text : (p q : Span) → onesParts s p q ≡ true → rowText s (lettersRow p Greater q) ≡ printNaEdit (swap (getD (part s p) 0 0) (getD (part s q) 0 0))
+  swap-text : (p q : Span) → oneEachParts s p q ≡ true → rowText s (lettersRow p Greater q) ≡ printNaEdit (swap (getD (part s p) 0 0) (getD (part s q) 0 0))
   swap-text p q h =
       let a = one-each (part s p) (part s q) h .0 in
       let b = one-each (part s p) (part s q) h .1 in
@@ -64,7 +64,7 @@ module _ (s : List ℕ) where
   change-planned p q =
       either s printNaEdit (sameParts s p q) _ _ _ _
       (λ h. row-text s printNaEdit _ (equal (part s p)) (equal-text p))
-      (λ h. either s printNaEdit (onesParts s p q) _ _ _ _
+      (λ h. either s printNaEdit (oneEachParts s p q) _ _ _ _
       (λ k. row-text s printNaEdit _ (swap (getD (part s p) 0 0) (getD (part s q) 0 0)) (swap-text p q k))
       (λ k. row-if s printNaEdit (leb 1 (length (part s q))) _ (delIns (part s p) (part s q)) (change-text p q)))
 

@@ -48,7 +48,7 @@ fn plan_change(source: &[u8], p: Span, q: Span) -> RowPlan
     if na_edit_tests::same_parts(source, p, q) {
         return RowPlan::Text(rows::letters_row(p, Word::Equal, rows::NO_SPAN));
     }
-    if na_edit_tests::ones_parts(source, p, q) {
+    if na_edit_tests::one_each_parts(source, p, q) {
         return RowPlan::Text(rows::letters_row(p, Word::Greater, q));
     }
     rows::row_if(na_edit_tests::is_some(source, q), del_ins_row(p, q))

@@ -13,13 +13,13 @@ use Rattle.emit_row.specs.declared.Row.{Row}
 use Rattle.emit_row.specs.Texts.{rowText}
 use Rattle.rows.specs.Rows.{lettersRow, wordRow, wordAlone}
 use Rattle.rows.specs.Laws.{letters-text, word-text, word-alone}
-use Rattle.na_edit_tests.specs.Tests.{sameParts, onesParts}
+use Rattle.na_edit_tests.specs.Tests.{sameParts, oneEachParts}
 
 module _ (s : List ℕ) where
   unfoldable pub noRefAlt : Span → Span → Row
   noRefAlt p q =
       cond (sameParts s p q) (wordAlone Equal)
-      (cond (onesParts s p q) (lettersRow p Greater q) (wordRow DelIns q))
+      (cond (oneEachParts s p q) (lettersRow p Greater q) (wordRow DelIns q))
 
   abbrev pub noRefRow : NaEdit → Row
   noRefRow (Na.RefAlt p q) = noRefAlt p q
@@ -35,9 +35,9 @@ module _ (s : List ℕ) where
 module _ (s : List ℕ) where
   no-ref-alt : (p q : Span) → rowText s (noRefAlt s p q) ≡ noRefEdit (naEditContent s (Na.RefAlt p q))
   unfolding noRefAlt
-  no-ref-alt p q = go (sameParts s p q) (onesParts s p q) refl refl
+  no-ref-alt p q = go (sameParts s p q) (oneEachParts s p q) refl refl
     where
-      go : (t u : Bool) → sameParts s p q ≡ t → onesParts s p q ≡ u → rowText s (noRefAlt s p q) ≡ noRefEdit (naEditContent s (Na.RefAlt p q))
+      go : (t u : Bool) → sameParts s p q ≡ t → oneEachParts s p q ≡ u → rowText s (noRefAlt s p q) ≡ noRefEdit (naEditContent s (Na.RefAlt p q))
       go true u e f = rw (e, noRefAlt) (word-alone s Equal)
       go false true e f = rw (e, f, noRefAlt) (letters-text s p Greater q)
       go false false e f = rw (e, f, noRefAlt) (word-text s DelIns q)

@@ -12,7 +12,7 @@ fn no_ref_alt(source: &[u8], p: Span, q: Span) -> Row
     if na_edit_tests::same_parts(source, p, q) {
         return rows::word_alone(Word::Equal);
     }
-    if na_edit_tests::ones_parts(source, p, q) {
+    if na_edit_tests::one_each_parts(source, p, q) {
         return rows::letters_row(p, Word::Greater, q);
     }
     rows::word_row(Word::DelIns, q)

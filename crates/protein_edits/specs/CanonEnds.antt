@@ -14,7 +14,7 @@ use Rattle.texts.specs.Words.{same, same-true}
 use Rattle.number.specs.Digits.{val, dec}
 use Rattle.number.specs.Decimals.{dec-best}
 use Rattle.number.specs.Reading.{signed, most}
-use Rattle.number.specs.Signs.{saturated-fit}
+use Rattle.number.specs.Signs.{or-zero-fit}
 use Rattle.number.specs.Written.{unsignedDigits, negatedDigits, unsigned-written, negated-written, unsigned-found, negated-found}
 use Rattle.number.specs.declared.Sign.the-variants.{Plain, Negated}
 use Rattle.residue.specs.Residues.{isResidue}
@@ -162,11 +162,11 @@ terminal-covers w ds wq wd h = go (canonTerminal w) (val ds) refl refl
     go : (o : Option Terminal) (v : ℕ) → canonTerminal w ≡ o → val ds ≡ v → PartCovered printExtEnd (canonExtEnd (some w) (Known (number Negated ds))) (earlier (some w) ds)
     go none v e p = record { tree = c .tree; is = rw e (c .is); best = c .best }
     go (some t) zero e p =
-        let z : number Negated ds ≡ signed Negated 0 = saturated-fit Negated (val ds) h ∙ ap (signed Negated) p in
+        let z : number Negated ds ≡ signed Negated 0 = or-zero-fit Negated (val ds) h ∙ ap (signed Negated) p in
         let b : Best (w ++ dec 0) (w ++ (ascii "-" ++ ds)) = best-behind w (best-more (code "-") (dec-best wd p)) in
         record { tree = later (stop t (counted (dec 0))); is = rw (e, z); best = rw (← terminal-right w t e) b }
     go (some t) (suc v) e p =
-        let z : number Negated ds ≡ signed Negated (suc v) = saturated-fit Negated (val ds) h ∙ ap (signed Negated) p in
+        let z : number Negated ds ≡ signed Negated (suc v) = or-zero-fit Negated (val ds) h ∙ ap (signed Negated) p in
         let i : canonExtEnd (some w) (Known (number Negated ds)) ≡ canonEarlier (some w) (Known (number Negated ds)) = rw (e, z) in
         record { tree = c .tree; is = i ∙ c .is; best = c .best }
 

@@ -22,7 +22,7 @@ use Rattle.residue.specs.Laws.{residue-complete, residue-some, residue-first, r
 use Rattle.grammar.specs.Optional.{printOptional, WfOptional}
 use Rattle.grammar.specs.ProteinEdits.{Residue, Terminal, Terminal.ter, Terminal.x, Terminal.star, Length, Length.counted, Length.unknown, Length.unsaid, Stop, Stop.stop, ExtEnd, ExtEnd.nothing, ExtEnd.later, ExtEnd.earlier, ProteinEdit, ProteinEdit.subst, ProteinEdit.substUnknown, ProteinEdit.equal, ProteinEdit.del, ProteinEdit.dup, ProteinEdit.ins, ProteinEdit.delIns, ProteinEdit.fs, ProteinEdit.ext, printTerminal, printLength, printStop, printFsEnd, printExtEnd, printProteinEdit, WfLength, WfStop, WfFsEnd, WfExtEnd, WfProteinEdit}
 use Rattle.protein_edits.specs.Parse.{bytesOf, terminalAt, lengthAt, stopAt, earlierWith, earlierAt, extEndAt, residuesBehind, insertedAt, wordedAt, parseWith, parse}
-use Rattle.protein_edits.specs.Follow.{Stops, no-residue, no-digit, no-word, no-continues, goesOn}
+use Rattle.protein_edits.specs.Follow.{Follows, no-residue, no-digit, no-word, no-continues, goesOn}
 
 -- ---- n bytes at the front
 pub bytes-some : (n : ℕ) (s : List ℕ) → (n ≡ 0 → ⊥) → bytesOf n s ≡ some (take n s)
@@ -59,32 +59,32 @@ no-terminal : (y : List ℕ) → run residue y ≡ 0 → terminalAt y ≡ none
 unfolding terminalAt residue
 no-terminal y e = rw (starts-none residue (code "T") (ascii "er") y refl e, starts-none residue (code "X") [] y refl e, starts-none residue (code "*") [] y refl e)
 
-length-complete : (n : Length) (r : List ℕ) → WfLength n → Stops r → lengthAt (printLength n ++ r) ≡ n
+length-complete : (n : Length) (r : List ℕ) → WfLength n → Follows r → lengthAt (printLength n ++ r) ≡ n
 unfolding lengthAt starts run digit goesOn residue
 length-complete (counted ds) r w st =
     rw (run-is digit ds r (w .all) (no-digit r st), front-is digit ds r (w .all) (no-digit r st), ne-eqb (length ds) 0 (λ e. omega (arith, w .some)))
 length-complete unknown r w st = refl
 length-complete unsaid r w st = rw (no-digit r st, no-word (code "?") [] r refl st)
 
-stop-complete : (e : Stop) (r : List ℕ) → WfStop e → Stops r → stopAt (printStop e ++ r) ≡ some e
+stop-complete : (e : Stop) (r : List ℕ) → WfStop e → Follows r → stopAt (printStop e ++ r) ≡ some e
 unfolding stopAt
 stop-complete (stop t n) r w st =
     let y : List ℕ = printLength n ++ r in
     rw (append-assoc (printTerminal t) (printLength n) r, terminal-complete t y, drop-append-seam (printTerminal t) y, length-complete n r w st)
 
-fs-complete : (e : Option Stop) (r : List ℕ) → WfFsEnd e → Stops r → stopAt (printFsEnd e ++ r) ≡ e
+fs-complete : (e : Option Stop) (r : List ℕ) → WfFsEnd e → Follows r → stopAt (printFsEnd e ++ r) ≡ e
 unfolding stopAt
 fs-complete none r w st = rw (no-terminal r (no-residue r st))
 fs-complete (some e) r w st = stop-complete e r w st
 
 -- behind a terminal stands neither what continues a residue nor `-`
-length-continues : (n : Length) (r : List ℕ) → WfLength n → Stops r → continues (printLength n ++ r) ≡ false
+length-continues : (n : Length) (r : List ℕ) → WfLength n → Follows r → continues (printLength n ++ r) ≡ false
 unfolding continues oneOf rows same
 length-continues (counted ds) r w st = continues-digits ds r w
 length-continues unknown r w st = refl
 length-continues unsaid r w st = no-continues r st
 
-length-plain : (n : Length) (r : List ℕ) → WfLength n → Stops r → starts (ascii "-") (printLength n ++ r) ≡ false
+length-plain : (n : Length) (r : List ℕ) → WfLength n → Follows r → starts (ascii "-") (printLength n ++ r) ≡ false
 unfolding starts goesOn residue digit
 length-plain (counted ds) r w st = starts-other digit (code "-") [] ds r refl w
 length-plain unknown r w st = refl
@@ -94,7 +94,7 @@ no-earlier : (s : List ℕ) → starts (ascii "-") (drop (residueLen s) s) ≡ f
 unfolding earlierAt earlierWith
 no-earlier s e = rw e
 
-ext-complete : (e : ExtEnd) (r : List ℕ) → WfExtEnd e → Stops r → extEndAt (printExtEnd e ++ r) ≡ e
+ext-complete : (e : ExtEnd) (r : List ℕ) → WfExtEnd e → Follows r → extEndAt (printExtEnd e ++ r) ≡ e
 unfolding extEndAt earlierAt earlierWith goesOn residue digit starts
 ext-complete nothing r w st =
     let z : residueLen r ≡ 0 = residue-stop r (no-residue r st) in
@@ -117,7 +117,7 @@ ext-complete (earlier q ds) r w st =
     rw (a, e)
 
 -- ---- edits
-inserted-front : (w rs r : List ℕ) → isResidues rs ≡ true → Stops r → insertedAt w (w ++ (rs ++ r)) ≡ some rs
+inserted-front : (w rs r : List ℕ) → isResidues rs ≡ true → Follows r → insertedAt w (w ++ (rs ++ r)) ≡ some rs
 unfolding insertedAt residuesBehind
 inserted-front w rs r h st =
     rw (starts-append w (rs ++ r), drop-append-seam w (rs ++ r), residues-complete rs r h (no-residue r st) (no-continues r st)) (bytes-front rs r (residues-some rs h))
@@ -144,7 +144,7 @@ unfolding starts
 residue-plain c [] r n h = absurd (omega (arith, residue-some [] h))
 residue-plain c (b ∷ s) r n h = never (eqb c b && true) (λ q. clash (residue-first b s h) (rw (eqb-true c b (and-true (eqb c b) true q .0)) at n))
 
-parse-subst : (s r : List ℕ) → isResidue s ≡ true → Stops r → parse (s ++ r) ≡ some (subst s)
+parse-subst : (s r : List ℕ) → isResidue s ≡ true → Follows r → parse (s ++ r) ≡ some (subst s)
 unfolding parse parseWith goesOn residue digit
 parse-subst s r w st =
     rw (residue-complete s r w (no-continues r st), drop-append-seam s r, no-word (code "f") (ascii "s") r refl st, no-word (code "e") (ascii "xt") r refl st, residue-plain (code "=") s r refl w, residue-plain (code "?") s r refl w, bytes-front s r (residue-some s w))
@@ -154,7 +154,7 @@ parse-bare : (s : List ℕ) → run residue s ≡ 0 → parse s ≡ parseWith 0 
 unfolding parse
 parse-bare s e = rw (residue-stop s e)
 
-pub complete : (t : ProteinEdit) (r : List ℕ) → WfProteinEdit t → Stops r → parse (printProteinEdit t ++ r) ≡ some t
+pub complete : (t : ProteinEdit) (r : List ℕ) → WfProteinEdit t → Follows r → parse (printProteinEdit t ++ r) ≡ some t
 unfolding parseWith starts residue digit goesOn bytesOf wordedAt
 complete (subst s) r w st = parse-subst s r w st
 complete substUnknown r w st = parse-bare (ascii "?" ++ r) (run-first residue (code "?") r refl)

@@ -17,21 +17,21 @@ use Rattle.residue.specs.Laws.{continues-nil, continues-first}
 unfoldable pub goesOn : ℕ → Bool
 goesOn b = residue b || (digit b || among b (ascii "aefhilrsy?-"))
 
-pub record Stops (r : List ℕ) : Type 0 where
+pub record Follows (r : List ℕ) : Type 0 where
   pub ends : run goesOn r ≡ 0
 
-pub stop-nil : Stops []
-stop-nil = record { ends = run-nil goesOn }
+pub follows-nil : Follows []
+follows-nil = record { ends = run-nil goesOn }
 
-pub stop-first : (b : ℕ) (r : List ℕ) → goesOn b ≡ false → Stops (b ∷ r)
-stop-first b r h = record { ends = run-first goesOn b r h }
+pub follows-first : (b : ℕ) (r : List ℕ) → goesOn b ≡ false → Follows (b ∷ r)
+follows-first b r h = record { ends = run-first goesOn b r h }
 
-pub stop-close : (r : List ℕ) → Stops (ascii ")" ++ r)
+pub follows-close : (r : List ℕ) → Follows (ascii ")" ++ r)
 unfolding goesOn residue digit
-stop-close r = stop-first (code ")") r refl
+follows-close r = follows-first (code ")") r refl
 
 -- ---- so nothing of an edit follows
-module _ (r : List ℕ) (st : Stops r) where
+module _ (r : List ℕ) (st : Follows r) where
   pub no-residue : run residue r ≡ 0
   unfolding goesOn
   no-residue = run-narrower residue goesOn (λ b h. left-or (digit b || among b (ascii "aefhilrsy?-")) h) r (st .ends)
@@ -40,10 +40,10 @@ module _ (r : List ℕ) (st : Stops r) where
   unfolding goesOn
   no-digit = run-narrower digit goesOn (λ b h. right-or (residue b) (left-or (among b (ascii "aefhilrsy?-")) h)) r (st .ends)
 
-pub no-word : (c : ℕ) (w r : List ℕ) → goesOn c ≡ true → Stops r → starts (c ∷ w) r ≡ false
+pub no-word : (c : ℕ) (w r : List ℕ) → goesOn c ≡ true → Follows r → starts (c ∷ w) r ≡ false
 no-word c w r h st = starts-none goesOn c w r h (st .ends)
 
-pub no-continues : (r : List ℕ) → Stops r → continues r ≡ false
+pub no-continues : (r : List ℕ) → Follows r → continues r ≡ false
 unfolding goesOn residue digit every
 no-continues [] st = continues-nil
 no-continues (b ∷ r) st =

@@ -7,17 +7,17 @@ use Rattle.grammar.specs.ProteinEdits.{ProteinEdit, printProteinEdit, WfProtein
 use Rattle.lang.specs.Lang.{Lang}
 use Rattle.lang.specs.MuLang.{Brackets, mu}
 use Rattle.protein_edits.specs.Parse.{parse}
-use Rattle.protein_edits.specs.Follow.{Stops, stop-close}
+use Rattle.protein_edits.specs.Follow.{Follows, follows-close}
 use Rattle.protein_edits.specs.Complete.{complete}
 use Rattle.protein_edits.specs.Sound.{sound}
 use Rattle.protein_edits.specs.First.{firsts, edit-head, head-word}
 
 abbrev pub proteinEditLang : Lang
-proteinEditLang = record { Tree = ProteinEdit; print = printProteinEdit; Wf = WfProteinEdit; Stop = Stops; parse = parse; complete = complete; sound = sound }
+proteinEditLang = record { Tree = ProteinEdit; print = printProteinEdit; Wf = WfProteinEdit; Follows = Follows; parse = parse; complete = complete; sound = sound }
 
 pub brackets : Brackets proteinEditLang
 unfolding every
-brackets = record { no-open = λ t r w. head-word firsts (printProteinEdit t ++ r) (edit-head t r w) (code "(") [] refl refl; may-close = stop-close }
+brackets = record { no-open = λ t r w. head-word firsts (printProteinEdit t ++ r) (edit-head t r w) (code "(") [] refl refl; may-close = follows-close }
 
 abbrev pub muProteinEditLang : Lang
 muProteinEditLang = mu proteinEditLang brackets

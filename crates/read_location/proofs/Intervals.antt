@@ -14,7 +14,7 @@ use Rattle.texts.specs.Slices.{tail-part, tail-at, tail-beyond}
 use Rattle.texts.specs.Words.{starts, starts-length}
 use Rattle.number.specs.declared.Sign.the-variants.{Plain}
 use Rattle.number.specs.Digits.{val}
-use Rattle.number.specs.Signs.{saturated-fits}
+use Rattle.number.specs.Signs.{or-zero-fits}
 use Rattle.record.specs.declared.Kind.{Kind}
 use Rattle.record.specs.declared.Kind.the-variants.{Cds, Genome, Mt, Tx, Prot, Rna}
 use Rattle.grammar.specs.Positions as Tree
@@ -49,14 +49,14 @@ number-in Prot at (residual r ds) = refl
 number-in Rna at (based m ds o) = refl
 
 number-fits : (k : Kind) (t : Tree.Position k) → SFits w32 (numberIn k t)
-number-fits Cds (based m ds o) = saturated-fits (signOf m) (val ds)
-number-fits Genome (known ds) = saturated-fits Plain (val ds)
+number-fits Cds (based m ds o) = or-zero-fits (signOf m) (val ds)
+number-fits Genome (known ds) = or-zero-fits Plain (val ds)
 number-fits Genome unknown = record { sfits = omega arith }
-number-fits Mt (known ds) = saturated-fits Plain (val ds)
+number-fits Mt (known ds) = or-zero-fits Plain (val ds)
 number-fits Mt unknown = record { sfits = omega arith }
-number-fits Tx (based m ds o) = saturated-fits (signOf m) (val ds)
-number-fits Prot (residual r ds) = saturated-fits Plain (val ds)
-number-fits Rna (based m ds o) = saturated-fits (signOf m) (val ds)
+number-fits Tx (based m ds o) = or-zero-fits (signOf m) (val ds)
+number-fits Prot (residual r ds) = or-zero-fits Plain (val ds)
+number-fits Rna (based m ds o) = or-zero-fits (signOf m) (val ds)
 
 module _ (k : Kind) (at : ℕ) (s : List ℕ) where
   pub interval-none : PR.Nothing ≡ positionAnswer k at (parsePosition k s) → Nothing ≡ intervalAnswer k at (endsLang k .parse s)

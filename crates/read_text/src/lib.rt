@@ -1,4 +1,4 @@
-// A text of the grammar: the header once, the kind, then the body up to the end.
+// A text of the grammar: the header, the kind, then the body up to the end.
 use read_header::HeaderRead;
 use read_header::KindRead;
 use read_na_body::BodyRead;

@@ -11,7 +11,7 @@ use Rattle.texts.specs.Runs.{run, front, run-le, front-length}
 use Rattle.alphabet.specs.Letters.{digit}
 use Rattle.number.specs.Digits.{val}
 use Rattle.number.specs.Reading.{numberOf, numberAt}
-use Rattle.number.specs.Signs.{saturated-held}
+use Rattle.number.specs.Signs.{or-zero-held}
 use Rattle.number.specs.declared.Sign.{Sign}
 use Rattle.number.specs.declared.Number.{Number}
 use Rattle.grammar.specs.Meaning.{number}
@@ -32,7 +32,7 @@ module _ (sign : Sign) (s : List ℕ) (n : Number) (e : n ≡ numberAt sign s) w
   -- as the machine holds it
   pub number-value : toZ w32 (ofZ w32 (n .value)) ≡ number sign (front digit s)
   unfolding numberAt numberOf
-  number-value = rw e (saturated-held sign (val (front digit s)))
+  number-value = rw e (or-zero-held sign (val (front digit s)))
 
   pub number-faults : (k : ℕ) → ofNumber (n .fits) (n .plain) k ≡ faults (numeral k sign (front digit s) ∷ []) true
   unfolding numberAt numberOf

@@ -16,8 +16,8 @@ returns c =
     let t = c .before in
     rw (sym (t .before .same-parts .ensures) ∙ t .if1 .taken, c .letters-row .ensures)
 
-ones-parts-requires : tie.Need-ones-parts-requires
-ones-parts-requires c κs = search needs
+one-each-parts-requires : tie.Need-one-each-parts-requires
+one-each-parts-requires c κs = search needs
 
 letters-row-requires-2 : tie.Need-letters-row-requires-2
 letters-row-requires-2 c κs = search needs
@@ -27,7 +27,7 @@ unfolding planChange
 returns-2 c =
     let t = c .before in
     let e = t .before .before in
-    rw (sym (e .before .same-parts .ensures) ∙ e .if1 .left, sym (t .before .ones-parts .ensures) ∙ t .if2 .taken, c .letters-row2 .ensures)
+    rw (sym (e .before .same-parts .ensures) ∙ e .if1 .left, sym (t .before .one-each-parts .ensures) ∙ t .if2 .taken, c .letters-row2 .ensures)
 
 is-some-requires : tie.Need-is-some-requires
 is-some-requires c κs = search needs
@@ -45,7 +45,7 @@ returns-3 c =
     let i = d .before in
     let t = i .before in
     let e = t .before .before in
-    rw (sym (e .before .same-parts .ensures) ∙ e .if1 .left, sym (t .before .ones-parts .ensures) ∙ t .if2 .left)
+    rw (sym (e .before .same-parts .ensures) ∙ e .if1 .left, sym (t .before .one-each-parts .ensures) ∙ t .if2 .left)
     (c .row-if .ensures ∙ rw (i .is-some .ensures, d .del-ins-row .ensures))
 
 pub plan-change-spec : {M : Type 1} → statement M
@@ -55,7 +55,7 @@ plan-change-spec =
     same-parts-requires
     letters-row-requires
     returns
-    ones-parts-requires
+    one-each-parts-requires
     letters-row-requires-2
     returns-2
     is-some-requires

@@ -16,8 +16,8 @@ returns c =
     let t = c .before in
     rw (sym (t .before .same-parts .ensures) ∙ t .if1 .taken) (c .word-alone .ensures)
 
-ones-parts-requires : tie.Need-ones-parts-requires
-ones-parts-requires c κs = search needs
+one-each-parts-requires : tie.Need-one-each-parts-requires
+one-each-parts-requires c κs = search needs
 
 letters-row-requires : tie.Need-letters-row-requires
 letters-row-requires c κs = search needs
@@ -27,7 +27,7 @@ unfolding noRefAlt
 returns-2 c =
     let t = c .before in
     let e = t .before .before in
-    rw (sym (e .before .same-parts .ensures) ∙ e .if1 .left, sym (t .before .ones-parts .ensures) ∙ t .if2 .taken) (c .letters-row .ensures)
+    rw (sym (e .before .same-parts .ensures) ∙ e .if1 .left, sym (t .before .one-each-parts .ensures) ∙ t .if2 .taken) (c .letters-row .ensures)
 
 word-row-requires : tie.Need-word-row-requires
 word-row-requires c κs = search needs
@@ -37,7 +37,7 @@ unfolding noRefAlt
 returns-3 c =
     let t = c .before in
     let e = t .before .before in
-    rw (sym (e .before .same-parts .ensures) ∙ e .if1 .left, sym (t .before .ones-parts .ensures) ∙ t .if2 .left) (c .word-row .ensures)
+    rw (sym (e .before .same-parts .ensures) ∙ e .if1 .left, sym (t .before .one-each-parts .ensures) ∙ t .if2 .left) (c .word-row .ensures)
 
 pub no-ref-alt-spec : {M : Type 1} → statement M
 no-ref-alt-spec =
@@ -46,7 +46,7 @@ no-ref-alt-spec =
     same-parts-requires
     word-alone-requires
     returns
-    ones-parts-requires
+    one-each-parts-requires
     letters-row-requires
     returns-2
     word-row-requires

@@ -1,7 +1,7 @@
 use borrow.Author.Tests.{ne-eqb}
 use borrow.Author.Needs.{needs}
-use Rattle.na_edit_tests.proofs.ones_parts.Statement.{statement}
-use Rattle.na_edit_tests.proofs.ones_parts.Tie as tie
+use Rattle.na_edit_tests.proofs.one_each_parts.Statement.{statement}
+use Rattle.na_edit_tests.proofs.one_each_parts.Tie as tie
 
 part-len-requires : tie.Need-part-len-requires
 part-len-requires c κs = search needs
@@ -15,5 +15,5 @@ returns c = rw (← c .before .before .part-len .ensures .0, c .before .if1 .tak
 returns-2 : tie.Need-returns-2
 returns-2 c = rw (← c .before .part-len .ensures .0, ne-eqb _ 1 (c .if1 .left))
 
-pub ones-parts-spec : {M : Type 1} → statement M
-ones-parts-spec = tie.close (tie.spec part-len-requires part-len-requires-2 returns returns-2)
+pub one-each-parts-spec : {M : Type 1} → statement M
+one-each-parts-spec = tie.close (tie.spec part-len-requires part-len-requires-2 returns returns-2)
