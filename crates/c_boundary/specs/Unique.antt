@@ -13,9 +13,9 @@ use Rattle.promise.specs.Writing.{ToWrite}
 use Rattle.promise.specs.NoRef.{NoRefText}
 use Rattle.promise.specs.Unique.{reads-unique, writes-unique, measures-unique, one-shortest, one-no-ref}
 use Rattle.reader.specs.Unique.{one-tree}
-use Rattle.c_answer.specs.declared.Answer.{Answer}
-use Rattle.c_answer.specs.Numbered.{numbered}
-use Rattle.c_boundary.specs.Answers.{Checks, Rewrites, Gauges}
+use Rattle.numbered.specs.declared.Answer.{Answer}
+use Rattle.numbered.specs.Numbered.{numbered}
+use Rattle.numbered.specs.Answers.{Checks, Rewrites, Gauges}
 
 one-outcome : (t : List ℕ) (a b : Outcome HgvsVariant) → Reads allLetters t a → Reads allLetters t b → a ≡ b
 one-outcome t a b = reads-unique allLetters one-tree t a b

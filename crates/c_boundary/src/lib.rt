@@ -1,10 +1,10 @@
 // For C: operations on a text, in numbers and byte slices. c/saltwhistle.h says the same to a C programmer.
-use c_answer::Answer;
+use numbered::Answer;
 use record::ReadAnswer;
 ghost use Rattle.grammar.specs.Texts.{allLetters};
 ghost use Rattle.promise.specs.Writing.{ToWrite};
 ghost use Rattle.promise.specs.NoRef.{NoRefText};
-ghost use Rattle.c_boundary.specs.Answers.{Checks, Rewrites, Gauges};
+ghost use Rattle.numbered.specs.Answers.{Checks, Rewrites, Gauges};
 
 // Whether the text is one of the grammar whose numbers fit.
 #[no_mangle]
@@ -14,10 +14,10 @@ pub extern "C" fn saltwhistle_check(text: &[u8]) -> Answer
     let r = reader::reading_of(text);
     let answer = r.answer;
     match answer {
-        ReadAnswer::Accepted(_) => c_answer::bare(0, 0),
-        ReadAnswer::TooLong => c_answer::bare(1, 0),
-        ReadAnswer::NotInGrammar => c_answer::bare(2, 0),
-        ReadAnswer::DoesNotFit(place) => c_answer::bare(3, place as u64),
+        ReadAnswer::Accepted(_) => numbered::bare(0, 0),
+        ReadAnswer::TooLong => numbered::bare(1, 0),
+        ReadAnswer::NotInGrammar => numbered::bare(2, 0),
+        ReadAnswer::DoesNotFit(place) => numbered::bare(3, place as u64),
     }
 }
 
@@ -26,19 +26,7 @@ pub extern "C" fn saltwhistle_check(text: &[u8]) -> Answer
 pub extern "C" fn saltwhistle_shortest(text: &[u8], output: &mut [u8]) -> Answer
     ensures { λ r. ⌜ Rewrites (ToWrite allLetters) (now (text .entry)) (now (output .entry)) r (now (output .exit)) ⌝ }
 {
-    let r = reader::reading_of(text);
-    let answer = r.answer;
-    match answer {
-        ReadAnswer::Accepted(v) => c_answer::of_write(rewriter::rewrite(
-            text,
-            v,
-            r.settled,
-            output,
-        )),
-        ReadAnswer::TooLong => c_answer::bare(1, 0),
-        ReadAnswer::NotInGrammar => c_answer::bare(2, 0),
-        ReadAnswer::DoesNotFit(place) => c_answer::bare(3, place as u64),
-    }
+    rewriter::shortest(text, output)
 }
 
 // The text without the reference, at the front of the output.
@@ -49,10 +37,10 @@ pub extern "C" fn saltwhistle_noref(text: &[u8], output: &mut [u8]) -> Answer
     let r = reader::reading_of(text);
     let answer = r.answer;
     match answer {
-        ReadAnswer::Accepted(v) => c_answer::of_write(writer::write_noref(text, v, output)),
-        ReadAnswer::TooLong => c_answer::bare(1, 0),
-        ReadAnswer::NotInGrammar => c_answer::bare(2, 0),
-        ReadAnswer::DoesNotFit(place) => c_answer::bare(3, place as u64),
+        ReadAnswer::Accepted(v) => numbered::of_write(writer::write_noref(text, v, output)),
+        ReadAnswer::TooLong => numbered::bare(1, 0),
+        ReadAnswer::NotInGrammar => numbered::bare(2, 0),
+        ReadAnswer::DoesNotFit(place) => numbered::bare(3, place as u64),
     }
 }
 
@@ -64,9 +52,9 @@ pub extern "C" fn saltwhistle_width(text: &[u8]) -> Answer
     let r = reader::reading_of(text);
     let answer = r.answer;
     match answer {
-        ReadAnswer::Accepted(v) => c_answer::of_width(measure::width(text, v)),
-        ReadAnswer::TooLong => c_answer::bare(1, 0),
-        ReadAnswer::NotInGrammar => c_answer::bare(2, 0),
-        ReadAnswer::DoesNotFit(place) => c_answer::bare(3, place as u64),
+        ReadAnswer::Accepted(v) => numbered::of_width(measure::width(text, v)),
+        ReadAnswer::TooLong => numbered::bare(1, 0),
+        ReadAnswer::NotInGrammar => numbered::bare(2, 0),
+        ReadAnswer::DoesNotFit(place) => numbered::bare(3, place as u64),
     }
 }

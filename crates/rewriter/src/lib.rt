@@ -1,5 +1,7 @@
-// Writing the record that a text reads as.
+// Writing the record that a text reads as, in its shortest text.
+use numbered::Answer;
 use record::HgvsVariant;
+use record::ReadAnswer;
 use record::WriteAnswer;
 ghost use mathlib.Core.Path.{_≡_};
 ghost use Rattle.grammar.specs.Texts.{allLetters};
@@ -8,9 +10,10 @@ ghost use Rattle.bodies.specs.Settled.{isSettled};
 ghost use Rattle.promise.specs.Outcome.{Outcome.given, writeOutcome};
 ghost use Rattle.promise.specs.Reading.{Reads};
 ghost use Rattle.promise.specs.Writing.{Writes, ToWrite};
+ghost use Rattle.numbered.specs.Answers.{Rewrites};
 
 // The shortest text of the record v that the text reads as. A settled text is its own, and is copied.
-pub fn rewrite(text: &[u8], v: HgvsVariant, settled: bool, output: &mut [u8]) -> WriteAnswer
+fn rewrite(text: &[u8], v: HgvsVariant, settled: bool, output: &mut [u8]) -> WriteAnswer
     requires { ⌜ Reads allLetters (now text) (given v) × (settled ≡ isSettled allLetters alphabets (now text)) ⌝ }
     ensures { λ r. ⌜ Writes allLetters (ToWrite allLetters) (now (text .entry)) v (now (output .entry)) (writeOutcome r) (now (output .exit)) ⌝ }
 {
@@ -21,4 +24,18 @@ pub fn rewrite(text: &[u8], v: HgvsVariant, settled: bool, output: &mut [u8]) ->
         return WriteAnswer::NoRoom;
     }
     WriteAnswer::Written(lent::put_bytes(output, 0, text))
+}
+
+// Any text: it is read, and its shortest text written at the front of the output.
+pub fn shortest(text: &[u8], output: &mut [u8]) -> Answer
+    ensures { λ r. ⌜ Rewrites (ToWrite allLetters) (now (text .entry)) (now (output .entry)) r (now (output .exit)) ⌝ }
+{
+    let r = reader::reading_of(text);
+    let answer = r.answer;
+    match answer {
+        ReadAnswer::Accepted(v) => numbered::of_write(rewrite(text, v, r.settled, output)),
+        ReadAnswer::TooLong => numbered::bare(1, 0),
+        ReadAnswer::NotInGrammar => numbered::bare(2, 0),
+        ReadAnswer::DoesNotFit(place) => numbered::bare(3, place as u64),
+    }
 }

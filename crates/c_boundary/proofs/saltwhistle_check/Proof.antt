@@ -1,4 +1,4 @@
-use Rattle.c_boundary.specs.Answers.{Checks}
+use Rattle.numbered.specs.Answers.{Checks}
 use borrow.Author.Needs.{needs}
 use Rattle.c_boundary.proofs.saltwhistle_check.Statement.{statement}
 use Rattle.c_boundary.proofs.saltwhistle_check.Tie as tie

@@ -1,4 +1,4 @@
-use Rattle.c_boundary.specs.Answers.{Rewrites}
+use Rattle.numbered.specs.Answers.{Rewrites}
 use borrow.Author.Needs.{needs}
 use Rattle.c_boundary.proofs.saltwhistle_noref.Statement.{statement}
 use Rattle.c_boundary.proofs.saltwhistle_noref.Tie as tie

@@ -1,4 +1,4 @@
-use Rattle.c_boundary.specs.Answers.{Gauges}
+use Rattle.numbered.specs.Answers.{Gauges}
 use borrow.Author.Needs.{needs}
 use Rattle.c_boundary.proofs.saltwhistle_width.Statement.{statement}
 use Rattle.c_boundary.proofs.saltwhistle_width.Tie as tie

@@ -1,28 +1,39 @@
+use mathlib.Core.Path.{_≡_, ap, _∙_}
+use mathlib.Core.List.{List}
+use Prim.Native.Nat.{ℕ}
 use native.Mathlib.Omega.{arith}
+use lib.ListN.{length}
+use Rattle.lent.specs.Put.{put}
 use Rattle.grammar.specs.Texts.{allLetters}
-use Rattle.promise.specs.Outcome.{Outcome.given, Outcome.refused}
+use Rattle.promise.specs.Outcome.{Outcome.refused}
 use Rattle.promise.specs.Reading.{Reads}
-use Rattle.line_promise.specs.Laws.{refusal-short, refused-small}
-use Rattle.canonical_line.proofs.Laws.{long-answer, held-answer, number-answer}
+use Rattle.lines.specs.Lines.{Held.whole}
+use Rattle.line_promise.specs.Answer.{refusal as refusalText, lineAnswer}
+use Rattle.line_promise.specs.Laws.{answer-short, refusal-short, refused-small}
+use Rattle.canonical_line.proofs.Laws.{long-answer, held-answer, number-answer, text-answer, refusal-answer}
 use borrow.Author.Needs.{needs}
 use Rattle.canonical_line.proofs.put_answer.Statement.{statement}
 use Rattle.canonical_line.proofs.put_answer.Tie as tie
 
-abbrev start : tie.After-reading-of → tie.Start
-start c = c .before .before .before .before
+abbrev start : tie.After-shortest → tie.Start
+start c = c .before .before .before .before .before
 
--- what was read, in each case
-accepted : (c : tie.After-answer) → Reads allLetters (start (c .before .before) .args .line .now) (given (c .answer .given .0 .0))
-accepted c = rw (c .answer .given .1) at (c .before .before .reading-of .ensures .0)
+abbrev shortest : tie.After-struct-known → tie.After-shortest
+shortest c = c .before .before .before
 
-too-long : (c : tie.After-enum-told) → Reads allLetters (start (c .before .before) .args .line .now) (refused 1 0)
-too-long c = rw (c .enum-told .given .1) at (c .before .before .reading-of .ensures .0)
+-- the length of the text that was written
+long : (c : tie.Then2) → shortest (c .before) .shortest .result .value ≡ length (lineAnswer (whole (start (shortest (c .before)) .args .line .now)))
+long c =
+    let p = shortest (c .before) in
+    let s = start p in
+    text-answer (s .args .line .now) (s .args .out .now) (s .args .at) (s .pre) _ _ (p .shortest .ensures) (c .if2 .taken) .0
 
-not-in-grammar : (c : tie.After-enum-told2) → Reads allLetters (start (c .before .before) .args .line .now) (refused 2 0)
-not-in-grammar c = rw (c .enum-told2 .given .1) at (c .before .before .reading-of .ensures .0)
-
-does-not-fit : (c : tie.After-answer2) → Reads allLetters (start (c .before .before) .args .line .now) (refused 3 (c .answer2 .given .0 .0))
-does-not-fit c = rw (c .answer2 .given .1) at (c .before .before .reading-of .ensures .0)
+-- what was refused
+refusal : (c : tie.Else2) → Reads allLetters (start (shortest (c .before)) .args .line .now) (refused (shortest (c .before) .shortest .result .number) (shortest (c .before) .shortest .result .place))
+refusal c =
+    let p = shortest (c .before) in
+    let s = start p in
+    refusal-answer (s .args .line .now) (s .args .out .now) (s .args .at) (s .pre) _ _ (p .shortest .ensures) (c .if2 .left) .0
 
 put-refusal-requires : tie.Need-put-refusal-requires
 put-refusal-requires c κs = omega (arith, refusal-short 1 0 (omega arith) (omega arith))
@@ -37,80 +48,55 @@ returns c =
     let a = t .before .before .before .args in
     rw (long-answer (a .line .now) (a .long) (t .if1 .taken)) (p .put-refusal .ensures)
 
-reading-of-requires : tie.Need-reading-of-requires
-reading-of-requires c κs = search needs
+sub-shortest : tie.Need-sub-shortest
+sub-shortest c = search needs
 
-enum-known-answer : tie.Need-enum-known-answer
-enum-known-answer c = search needs
+part-shortest-start : tie.Need-part-shortest-start
+part-shortest-start c = search needs
 
-put-text-requires : tie.Need-put-text-requires
-put-text-requires c κs = (accepted (c .before .before), c .before .before .before .before .reading-of .ensures .1, search needs)
+part-shortest-end : tie.Need-part-shortest-end
+part-shortest-end c = search needs
 
-enum-told : tie.Need-enum-told
-enum-told c = search needs
+shortest-requires : tie.Need-shortest-requires
+shortest-requires c κs = search needs
 
-put-refusal-requires-2 : tie.Need-put-refusal-requires-2
-put-refusal-requires-2 c κs = omega (arith, refusal-short 1 0 (omega arith) (omega arith))
-
-enum-told-2 : tie.Need-enum-told-2
-enum-told-2 c = search needs
-
-put-refusal-requires-3 : tie.Need-put-refusal-requires-3
-put-refusal-requires-3 c κs = omega (arith, refusal-short 2 0 (omega arith) (omega arith))
-
-enum-known-answer-2 : tie.Need-enum-known-answer-2
-enum-known-answer-2 c = search needs
-
-cast-put-refusal : tie.Need-cast-put-refusal
-cast-put-refusal c = let p = c .before .before in omega (arith, refused-small _ 3 _ (does-not-fit p) .1)
-
-put-refusal-requires-4 : tie.Need-put-refusal-requires-4
-put-refusal-requires-4 c κs =
-    let p = c .before .before in
-    omega (arith, refusal-short 3 (p .answer2 .given .0 .0) (omega arith) (refused-small _ 3 _ (does-not-fit p) .1))
+add-result : tie.Need-add-result
+add-result c = record { fits = omega (arith, long c, answer-short (whole (start (shortest (c .before)) .args .line .now))) }
 
 same-length-2 : tie.Need-same-length-2
 same-length-2 c = search needs
 
 returns-2 : tie.Need-returns-2
 returns-2 c =
-    let p = c .before .before in
-    let r = p .before .before .before .before .before in
-    let a = start r .args in
-    rw (held-answer (a .line .now) (a .long) (r .before .if1 .left)) (p .put-text .ensures)
+    let p = shortest (c .before) in
+    let s = start p in
+    let a = text-answer (s .args .line .now) (s .args .out .now) (s .args .at) (s .pre) _ _ (p .shortest .ensures) (c .if2 .taken) in
+    rw (held-answer (s .args .line .now) (s .args .long) (p .before .before .if1 .left)) (omega (arith, a .0), a .1)
+
+cast-put-refusal : tie.Need-cast-put-refusal
+cast-put-refusal c = record { fits = refused-small _ _ _ (refusal (c .before .before)) .0 }
+
+cast-put-refusal-2 : tie.Need-cast-put-refusal-2
+cast-put-refusal-2 c = record { fits = refused-small _ _ _ (refusal (c .before .before .before)) .1 }
+
+put-refusal-requires-2 : tie.Need-put-refusal-requires-2
+put-refusal-requires-2 c κs =
+    let r = refusal (c .before .before .before) in
+    let m = refused-small _ _ _ r in
+    omega (arith, refusal-short _ _ (m .0) (m .1))
 
 same-length-3 : tie.Need-same-length-3
 same-length-3 c = search needs
 
 returns-3 : tie.Need-returns-3
 returns-3 c =
-    let p = c .before .before in
-    let t = p .before .before in
-    let r = t .before .before in
-    let a = start r .args in
-    rw (number-answer (a .line .now) (a .long) (r .before .if1 .left) 1 0 (too-long t)) (p .put-refusal2 .ensures)
-
-same-length-4 : tie.Need-same-length-4
-same-length-4 c = search needs
-
-returns-4 : tie.Need-returns-4
-returns-4 c =
-    let p = c .before .before in
-    let t = p .before .before in
-    let r = t .before .before in
-    let a = start r .args in
-    rw (number-answer (a .line .now) (a .long) (r .before .if1 .left) 2 0 (not-in-grammar t)) (p .put-refusal3 .ensures)
-
-same-length-5 : tie.Need-same-length-5
-same-length-5 c = search needs
-
-returns-5 : tie.Need-returns-5
-returns-5 c =
-    let p = c .before .before in
-    let t = p .before .before .before in
-    let r = t .before .before in
-    let a = start r .args in
-    rw (number-answer (a .line .now) (a .long) (r .before .if1 .left) 3 (t .answer2 .given .0 .0) (does-not-fit t)) (p .put-refusal4 .ensures)
+    let q = c .before .before in
+    let e = q .before .before .before .before in
+    let p = shortest (e .before) in
+    let s = start p in
+    let r = refusal-answer (s .args .line .now) (s .args .out .now) (s .args .at) (s .pre) _ _ (p .shortest .ensures) (e .if2 .left) in
+    rw (number-answer (s .args .line .now) (s .args .long) (p .before .before .if1 .left) _ _ (r .0))
+    (q .put-refusal2 .ensures .0, q .put-refusal2 .ensures .1 ∙ ap (λ (o : List ℕ). put o (s .args .at) (refusalText (p .shortest .result .number) (p .shortest .result .place))) (r .1))
 
 pub put-answer-spec : {M : Type 1} → statement M
 put-answer-spec =
@@ -119,21 +105,15 @@ put-answer-spec =
     put-refusal-requires
     same-length
     returns
-    reading-of-requires
-    enum-known-answer
-    put-text-requires
-    enum-told
-    put-refusal-requires-2
-    enum-told-2
-    put-refusal-requires-3
-    enum-known-answer-2
-    cast-put-refusal
-    put-refusal-requires-4
+    sub-shortest
+    part-shortest-start
+    part-shortest-end
+    shortest-requires
+    add-result
     same-length-2
     returns-2
+    cast-put-refusal
+    cast-put-refusal-2
+    put-refusal-requires-2
     same-length-3
-    returns-3
-    same-length-4
-    returns-4
-    same-length-5
-    returns-5)
+    returns-3)

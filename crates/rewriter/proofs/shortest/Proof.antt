@@ -1,7 +1,7 @@
-use Rattle.c_boundary.specs.Answers.{Rewrites}
+use Rattle.numbered.specs.Answers.{Rewrites}
 use borrow.Author.Needs.{needs}
-use Rattle.c_boundary.proofs.saltwhistle_shortest.Statement.{statement}
-use Rattle.c_boundary.proofs.saltwhistle_shortest.Tie as tie
+use Rattle.rewriter.proofs.shortest.Statement.{statement}
+use Rattle.rewriter.proofs.shortest.Tie as tie
 
 reading-of-requires : tie.Need-reading-of-requires
 reading-of-requires c κs = search needs
@@ -51,8 +51,8 @@ returns-3 c = rw (c .bare2 .ensures) (Rewrites.unread 2 0 (rw (c .before .enum-t
 returns-4 : tie.Need-returns-4
 returns-4 c = rw (c .bare3 .ensures) (Rewrites.unread 3 _ (rw (c .before .before .answer2 .given .1) at (c .before .before .before .before .reading-of .ensures .0)))
 
-pub saltwhistle-shortest-spec : {M : Type 1} → statement M
-saltwhistle-shortest-spec =
+pub shortest-spec : {M : Type 1} → statement M
+shortest-spec =
     tie.close
     (tie.spec
     reading-of-requires

@@ -1,9 +1,9 @@
-// For C: what an operation answers, in numbers.
+// What an operation on a text answers, in numbers: for C, and for the line program.
 use record::WidthAnswer;
 use record::WriteAnswer;
 ghost use mathlib.Core.Path.{_≡_};
 ghost use Rattle.promise.specs.Outcome.{writeOutcome, widthOutcome};
-ghost use Rattle.c_answer.specs.Numbered.{bareAnswer, numbered};
+ghost use Rattle.numbered.specs.Numbered.{bareAnswer, numbered};
 
 // Document 01's number, 0 where the text was accepted; the place; and the length or width, 0 where it was refused.
 #[repr(C)]

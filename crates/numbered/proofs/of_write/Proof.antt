@@ -1,6 +1,6 @@
 use borrow.Author.Needs.{needs}
-use Rattle.c_answer.proofs.of_write.Statement.{statement}
-use Rattle.c_answer.proofs.of_write.Tie as tie
+use Rattle.numbered.proofs.of_write.Statement.{statement}
+use Rattle.numbered.proofs.of_write.Tie as tie
 
 enum-known-a : tie.Need-enum-known-a
 enum-known-a c = search needs

@@ -8,8 +8,8 @@ use Rattle.promise.specs.Outcome.{Outcome, Outcome.given, Outcome.refused}
 use Rattle.promise.specs.Reading.{Reads}
 use Rattle.promise.specs.Writing.{Writes}
 use Rattle.promise.specs.Width.{Measures}
-use Rattle.c_answer.specs.declared.Answer.{Answer}
-use Rattle.c_answer.specs.Numbered.{bareAnswer, numbered}
+use Rattle.numbered.specs.declared.Answer.{Answer}
+use Rattle.numbered.specs.Numbered.{bareAnswer, numbered}
 
 pub data Checks (t : List ℕ) : Answer → Type 0 where
   unread : (n place : ℕ) → Reads allLetters t (refused n place) → Checks t (bareAnswer n place)

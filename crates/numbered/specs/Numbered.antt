@@ -1,7 +1,7 @@
 -- The numbers of an outcome: its number and place, and the length or width.
 use Prim.Native.Nat.{ℕ}
 use Rattle.promise.specs.Outcome.{Outcome, Outcome.given, Outcome.refused}
-use Rattle.c_answer.specs.declared.Answer.{Answer}
+use Rattle.numbered.specs.declared.Answer.{Answer}
 
 -- on a refusal the length or width is 0
 abbrev pub bareAnswer : ℕ → ℕ → Answer
