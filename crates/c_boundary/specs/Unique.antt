@@ -14,7 +14,7 @@ use Rattle.promise.specs.NoRef.{NoRefText}
 use Rattle.promise.specs.Unique.{reads-unique, writes-unique, measures-unique, one-shortest, one-no-ref}
 use Rattle.reader.specs.Unique.{one-tree}
 use Rattle.numbered.specs.declared.Answer.{Answer}
-use Rattle.numbered.specs.Numbered.{numbered}
+use Rattle.numbered.specs.Numbered.{numbered, readNumbers}
 use Rattle.numbered.specs.Answers.{Checks, Rewrites, Gauges}
 
 one-outcome : (t : List ℕ) (a b : Outcome HgvsVariant) → Reads allLetters t a → Reads allLetters t b → a ≡ b
@@ -31,10 +31,7 @@ one-record : (t : List ℕ) (v w : HgvsVariant) → Reads allLetters t (given v)
 one-record t v w r s = let e = one-outcome t (given v) (given w) r s in cc
 
 pub one-check-answer : (t : List ℕ) (a b : Answer) → Checks t a → Checks t b → a ≡ b
-one-check-answer t a b (Checks.unread n k r) (Checks.unread m l s) = let e = one-outcome t (refused n k) (refused m l) r s in cc
-one-check-answer t a b (Checks.unread n k r) (Checks.accepted w s) = absurd (refused-given (one-outcome t (refused n k) (given w) r s))
-one-check-answer t a b (Checks.accepted v r) (Checks.unread m l s) = absurd (refused-given (one-outcome t (refused m l) (given v) s r))
-one-check-answer t a b (Checks.accepted v r) (Checks.accepted w s) = refl
+one-check-answer t a b (Checks.checked o r) (Checks.checked q s) = ap readNumbers (one-outcome t o q r s)
 
 module _ (T : Value → List ℕ → Type 0) (one-text : (v : Value) (t u : List ℕ) → T v t → T v u → t ≡ u) (t output : List ℕ) where
   rewrites-unique : (a b : Answer) (o p : List ℕ) → Rewrites T t output a o → Rewrites T t output b p → (a ≡ b) × (o ≡ p)

@@ -11,14 +11,7 @@ ghost use Rattle.numbered.specs.Answers.{Checks, Rewrites, Gauges};
 pub extern "C" fn saltwhistle_check(text: &[u8]) -> Answer
     ensures { λ r. ⌜ Checks (now (text .entry)) r ⌝ }
 {
-    let r = reader::reading_of(text);
-    let answer = r.answer;
-    match answer {
-        ReadAnswer::Accepted(_) => numbered::bare(0, 0),
-        ReadAnswer::TooLong => numbered::bare(1, 0),
-        ReadAnswer::NotInGrammar => numbered::bare(2, 0),
-        ReadAnswer::DoesNotFit(place) => numbered::bare(3, place as u64),
-    }
+    numbered::of_read(reader::read(text))
 }
 
 // The text's shortest text, at the front of the output.
@@ -34,14 +27,11 @@ pub extern "C" fn saltwhistle_shortest(text: &[u8], output: &mut [u8]) -> Answer
 pub extern "C" fn saltwhistle_noref(text: &[u8], output: &mut [u8]) -> Answer
     ensures { λ r. ⌜ Rewrites (NoRefText allLetters) (now (text .entry)) (now (output .entry)) r (now (output .exit)) ⌝ }
 {
-    let r = reader::reading_of(text);
-    let answer = r.answer;
-    match answer {
-        ReadAnswer::Accepted(v) => numbered::of_write(writer::write_noref(text, v, output)),
-        ReadAnswer::TooLong => numbered::bare(1, 0),
-        ReadAnswer::NotInGrammar => numbered::bare(2, 0),
-        ReadAnswer::DoesNotFit(place) => numbered::bare(3, place as u64),
-    }
+    let r = reader::read(text);
+    let ReadAnswer::Accepted(v) = r else {
+        return numbered::of_read(r);
+    };
+    numbered::of_write(writer::write_noref(text, v, output))
 }
 
 // How many bases or residues the text's location spans.
@@ -49,12 +39,9 @@ pub extern "C" fn saltwhistle_noref(text: &[u8], output: &mut [u8]) -> Answer
 pub extern "C" fn saltwhistle_width(text: &[u8]) -> Answer
     ensures { λ r. ⌜ Gauges (now (text .entry)) r ⌝ }
 {
-    let r = reader::reading_of(text);
-    let answer = r.answer;
-    match answer {
-        ReadAnswer::Accepted(v) => numbered::of_width(measure::width(text, v)),
-        ReadAnswer::TooLong => numbered::bare(1, 0),
-        ReadAnswer::NotInGrammar => numbered::bare(2, 0),
-        ReadAnswer::DoesNotFit(place) => numbered::bare(3, place as u64),
-    }
+    let r = reader::read(text);
+    let ReadAnswer::Accepted(v) = r else {
+        return numbered::of_read(r);
+    };
+    numbered::of_width(measure::width(text, v))
 }

@@ -9,11 +9,10 @@ use Rattle.promise.specs.Reading.{Reads}
 use Rattle.promise.specs.Writing.{Writes}
 use Rattle.promise.specs.Width.{Measures}
 use Rattle.numbered.specs.declared.Answer.{Answer}
-use Rattle.numbered.specs.Numbered.{bareAnswer, numbered}
+use Rattle.numbered.specs.Numbered.{bareAnswer, numbered, readNumbers}
 
 pub data Checks (t : List ℕ) : Answer → Type 0 where
-  unread : (n place : ℕ) → Reads allLetters t (refused n place) → Checks t (bareAnswer n place)
-  accepted : (v : HgvsVariant) → Reads allLetters t (given v) → Checks t (bareAnswer 0 0)
+  checked : (o : Outcome HgvsVariant) → Reads allLetters t o → Checks t (readNumbers o)
 
 -- T says which text is to be written for a value
 pub data Rewrites (T : Value → List ℕ → Type 0) (t output : List ℕ) : Answer → List ℕ → Type 0 where

@@ -1,9 +1,10 @@
 // What an operation on a text answers, in numbers: for C, and for the line program.
+use record::ReadAnswer;
 use record::WidthAnswer;
 use record::WriteAnswer;
 ghost use mathlib.Core.Path.{_≡_};
-ghost use Rattle.promise.specs.Outcome.{writeOutcome, widthOutcome};
-ghost use Rattle.numbered.specs.Numbered.{bareAnswer, numbered};
+ghost use Rattle.promise.specs.Outcome.{readOutcome, writeOutcome, widthOutcome};
+ghost use Rattle.numbered.specs.Numbered.{bareAnswer, numbered, readNumbers};
 
 // Document 01's number, 0 where the text was accepted; the place; and the length or width, 0 where it was refused.
 #[repr(C)]
@@ -21,6 +22,17 @@ pub fn bare(number: u64, place: u64) -> Answer
         number,
         place,
         value: 0,
+    }
+}
+
+pub fn of_read(a: ReadAnswer) -> Answer
+    ensures { λ r. ⌜ r ≡ readNumbers (readOutcome a) ⌝ }
+{
+    match a {
+        ReadAnswer::Accepted(_) => bare(0, 0),
+        ReadAnswer::TooLong => bare(1, 0),
+        ReadAnswer::NotInGrammar => bare(2, 0),
+        ReadAnswer::DoesNotFit(place) => bare(3, place as u64),
     }
 }
 

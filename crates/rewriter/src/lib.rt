@@ -32,10 +32,8 @@ pub fn shortest(text: &[u8], output: &mut [u8]) -> Answer
 {
     let r = reader::reading_of(text);
     let answer = r.answer;
-    match answer {
-        ReadAnswer::Accepted(v) => numbered::of_write(rewrite(text, v, r.settled, output)),
-        ReadAnswer::TooLong => numbered::bare(1, 0),
-        ReadAnswer::NotInGrammar => numbered::bare(2, 0),
-        ReadAnswer::DoesNotFit(place) => numbered::bare(3, place as u64),
-    }
+    let ReadAnswer::Accepted(v) = answer else {
+        return numbered::of_read(answer);
+    };
+    numbered::of_write(rewrite(text, v, r.settled, output))
 }

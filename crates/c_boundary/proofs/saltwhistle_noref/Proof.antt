@@ -1,13 +1,29 @@
+use Rattle.grammar.specs.Texts.{allLetters}
+use Rattle.promise.specs.Outcome.{Outcome.given}
+use Rattle.promise.specs.Reading.{Reads}
 use Rattle.numbered.specs.Answers.{Rewrites}
+use Rattle.numbered.specs.Refused.{not-accepted}
 use borrow.Author.Needs.{needs}
 use Rattle.c_boundary.proofs.saltwhistle_noref.Statement.{statement}
 use Rattle.c_boundary.proofs.saltwhistle_noref.Tie as tie
 
-reading-of-requires : tie.Need-reading-of-requires
-reading-of-requires c κs = search needs
+-- the record that was read
+accepted : (c : tie.After-r) → Reads allLetters (c .before .before .before .before .before .args .text .now) (given (c .r .given .0 .0))
+accepted c = rw (c .r .given .1) at (c .before .before .read .ensures)
 
-enum-known-answer : tie.Need-enum-known-answer
-enum-known-answer c = search needs
+read-requires : tie.Need-read-requires
+read-requires c κs = search needs
+
+enum-known-r : tie.Need-enum-known-r
+enum-known-r c = search needs
+
+of-read-requires : tie.Need-of-read-requires
+of-read-requires c κs = search needs
+
+returns : tie.Need-returns
+returns c =
+    let x = not-accepted _ (c .before .before .read .result) (c .before .match .keys2) (c .before .before .read .ensures) (c .of-read .ensures) in
+    rw (x .said) (Rewrites.unread (x .number) (x .place) (x .reads))
 
 write-noref-requires : tie.Need-write-noref-requires
 write-noref-requires c κs = search needs
@@ -15,55 +31,23 @@ write-noref-requires c κs = search needs
 of-write-requires : tie.Need-of-write-requires
 of-write-requires c κs = search needs
 
-enum-told : tie.Need-enum-told
-enum-told c = search needs
-
-bare-requires : tie.Need-bare-requires
-bare-requires c κs = search needs
-
-enum-told-2 : tie.Need-enum-told-2
-enum-told-2 c = search needs
-
-bare-requires-2 : tie.Need-bare-requires-2
-bare-requires-2 c κs = search needs
-
-enum-known-answer-2 : tie.Need-enum-known-answer-2
-enum-known-answer-2 c = search needs
-
-bare-requires-3 : tie.Need-bare-requires-3
-bare-requires-3 c κs = search needs
-
 same-length : tie.Need-same-length
 same-length c = search needs
 
-returns : tie.Need-returns
-returns c = rw (c .of-write .ensures) (Rewrites.written _ (rw (c .before .before .before .before .before .before .answer .given .1) at (c .before .before .before .before .before .before .before .before .reading-of .ensures .0)) _ _ (c .before .before .before .write-noref .ensures))
-
 returns-2 : tie.Need-returns-2
-returns-2 c = rw (c .bare .ensures) (Rewrites.unread 1 0 (rw (c .before .enum-told .given .1) at (c .before .before .before .reading-of .ensures .0)))
-
-returns-3 : tie.Need-returns-3
-returns-3 c = rw (c .bare2 .ensures) (Rewrites.unread 2 0 (rw (c .before .enum-told2 .given .1) at (c .before .before .before .reading-of .ensures .0)))
-
-returns-4 : tie.Need-returns-4
-returns-4 c = rw (c .bare3 .ensures) (Rewrites.unread 3 _ (rw (c .before .before .answer2 .given .1) at (c .before .before .before .before .reading-of .ensures .0)))
+returns-2 c =
+    let w = c .before .before .before in
+    rw (c .of-write .ensures) (Rewrites.written _ (accepted (w .before .before .before)) _ _ (w .write-noref .ensures))
 
 pub saltwhistle-noref-spec : {M : Type 1} → statement M
 saltwhistle-noref-spec =
     tie.close
     (tie.spec
-    reading-of-requires
-    enum-known-answer
+    read-requires
+    enum-known-r
+    of-read-requires
+    returns
     write-noref-requires
     of-write-requires
-    enum-told
-    bare-requires
-    enum-told-2
-    bare-requires-2
-    enum-known-answer-2
-    bare-requires-3
     same-length
-    returns
-    returns-2
-    returns-3
-    returns-4)
+    returns-2)
