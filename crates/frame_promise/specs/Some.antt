@@ -1,0 +1,58 @@
+-- Every text has an answer, and every call an outcome.
+use Prim.Native.Nat.{ℕ, _≤_}
+use mathlib.Core.Path.{_≡_, refl}
+use mathlib.Core.Bool.{Bool, true, false}
+use mathlib.Core.List.{List}
+use mathlib.Core.Option.{Option, none, some}
+use lib.Dec.{leb}
+use lib.ListN.{length}
+use borrow.Author.Tests.{leb-true, leb-false}
+use Rattle.grammar.specs.Texts.{Text, allLetters}
+use Rattle.grammar.specs.Records.{recordAt}
+use Rattle.grammar.specs.Numbers.{misfit, numbersAt}
+use Rattle.na_edits.specs.Alphabet.{alphabets}
+use Rattle.bodies.specs.WholeText.{parseText}
+use Rattle.bodies.specs.Trees.{parsed-tree, no-tree}
+use Rattle.promise.specs.Outcome.{Outcome.given, Outcome.refused, limit}
+use Rattle.promise.specs.Reading.{Reads, Reads.tooLong, Reads.notInGrammar, Reads.doesNotFit, Reads.accepted}
+use Rattle.lines.specs.Lines.{Held, Held.whole, Held.tooLong}
+use Rattle.frames.specs.Frames.{textOf}
+use Rattle.frames.specs.Taking.{fresh, Standing, takes, gathered}
+use Rattle.frame_promise.specs.Answers.{Answer, TextAnswer, TextAnswer.badLine, TextAnswer.read, Says, Says.saysBad, Says.saysLong, Says.saysRead, Gives.silent, Gives.answered, Feeds}
+
+module _ (t : List ℕ) where
+  fitting-some : length t ≤ limit → (o : Option Text) → parseText allLetters alphabets t ≡ o → (a : Answer) × Reads allLetters t a
+  fitting-some h none e = (refused 2 0, notInGrammar h (no-tree allLetters alphabets t e))
+  fitting-some h (some x) e = go (misfit (numbersAt 0 x)) refl
+    where
+      go : (o : Option ℕ) → misfit (numbersAt 0 x) ≡ o → (a : Answer) × Reads allLetters t a
+      go none f = (given (recordAt 0 x), accepted h x (parsed-tree allLetters alphabets t x e) f)
+      go (some place) f = (refused 3 place, doesNotFit h x (parsed-tree allLetters alphabets t x e) place f)
+
+  reads-some : (a : Answer) × Reads allLetters t a
+  reads-some = go (leb (length t) limit) refl
+    where
+      go : (b : Bool) → leb (length t) limit ≡ b → (a : Answer) × Reads allLetters t a
+      go true e = fitting-some (leb-true (length t) limit e) (parseText allLetters alphabets t) refl
+      go false e = (refused 1 0, Reads.tooLong (leb-false (length t) limit e))
+
+pub every-text : (ls : List (List ℕ)) → (a : Answer) × TextAnswer ls a
+every-text ls = go (textOf ls) refl
+  where
+    go : (o : Option (List ℕ)) → textOf ls ≡ o → (a : Answer) × TextAnswer ls a
+    go none e = (refused 8 0, badLine e)
+    go (some t) e = let r = reads-some t in (r .0, read e (r .1))
+
+says-some : (h : Option Held) → (a : Answer) × Says h a
+says-some none = (refused 8 0, saysBad)
+says-some (some tooLong) = (refused 1 0, saysLong)
+says-some (some (whole t)) = let r = reads-some t in (r .0, saysRead (r .1))
+
+pub every-call : (g : Standing) (piece : List ℕ) → (used : ℕ) × (answer : Option Answer) × (after : Standing) × Feeds g piece used answer after
+every-call g piece = go (takes g piece .ended) refl
+  where
+    go : (b : Bool) → takes g piece .ended ≡ b → (used : ℕ) × (answer : Option Answer) × (after : Standing) × Feeds g piece used answer after
+    go false e = (takes g piece .used, none, takes g piece .at, record { used-is = refl; gives = silent e; buffer-is = refl })
+    go true e =
+        let a = says-some (gathered (takes g piece .at)) in
+        (takes g piece .used, some (a .0), record { state = fresh; buffer = takes g piece .at .buffer }, record { used-is = refl; gives = answered e (a .1); buffer-is = refl })

@@ -1,0 +1,58 @@
+// Texts that come as frames, read as their empty lines come.
+use frames::FrameState;
+use record::ReadAnswer;
+ghost use Rattle.frame_promise.specs.Answers.{Feeds};
+ghost use Rattle.frame_reader.specs.Answer.{frameOutcome, AnswersText};
+
+pub enum FrameAnswer {
+    // no empty line has come
+    Unfinished,
+    BadLine,
+    Read(ReadAnswer),
+}
+
+// How many bytes of a piece were taken, the text so far, and the answer of the text that an empty line ended.
+pub struct Fed {
+    pub used: usize,
+    pub state: FrameState,
+    pub answer: FrameAnswer,
+}
+
+// The answer of a text, at its empty line.
+fn answer_of(state: FrameState, buffer: &[u8]) -> FrameAnswer
+    ensures { λ r. ⌜ AnswersText (record { state = state; buffer = now (buffer .entry) }) r ⌝ }
+{
+    if state.bad {
+        return FrameAnswer::BadLine;
+    }
+    if state.long {
+        return FrameAnswer::Read(ReadAnswer::TooLong);
+    }
+    let len = state.len;
+    if buffer.len() < len {
+        return FrameAnswer::Read(ReadAnswer::TooLong);
+    }
+    FrameAnswer::Read(reader::read(&buffer[..len]))
+}
+
+// Takes the bytes of a piece up to an empty line, or all of them; the buffer holds the text so far.
+pub fn feed(state: FrameState, piece: &[u8], buffer: &mut [u8]) -> Fed
+    ensures { λ r. ⌜ Feeds (record { state = state; buffer = now (buffer .entry) }) (now (piece .entry)) (r .used) (frameOutcome (r .answer)) (record { state = r .state; buffer = now (buffer .exit) }) ⌝ }
+{
+    let t = frames::take(piece, buffer, state);
+    let next = t.state;
+    if !t.ended {
+        return Fed {
+            used: t.used,
+            state: next,
+            answer: FrameAnswer::Unfinished,
+        };
+    }
+    let answer = answer_of(next, buffer);
+    let start = frames::fresh();
+    Fed {
+        used: t.used,
+        state: start,
+        answer,
+    }
+}

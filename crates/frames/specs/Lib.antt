@@ -1,0 +1,10 @@
+pub mod Bytes
+pub mod Calls
+pub mod Digits
+pub mod Examples
+pub mod Frames
+pub mod Gathering
+pub mod Spelling
+pub mod Splits
+pub mod Streams
+pub mod Taking
