@@ -27,7 +27,7 @@ pub struct Place {
 }
 
 // The source's length is bounded so that no sum overflows.
-pub fn end_len(source: &[u8], e: End) -> usize
+fn end_len(source: &[u8], e: End) -> usize
     requires { ⌜ length (now source) ≤ 4096 ⌝ }
     ensures { λ r. ⌜ (r ≡ length (endText (now (source .entry)) e)) × (r ≤ 4096 + 22) ⌝ }
 {
@@ -60,7 +60,7 @@ pub fn place_len(source: &[u8], p: Place) -> usize
 }
 
 // Each of the following writes a text at a place where there is room for it, and gives the place behind it.
-pub fn put_end(source: &[u8], out: &mut [u8], at: usize, e: End) -> usize
+fn put_end(source: &[u8], out: &mut [u8], at: usize, e: End) -> usize
     requires { ⌜ at + length (endText (now source) e) ≤ length (now out) ⌝ }
     ensures { λ r. ⌜ (r ≡ at + length (endText (now (source .entry)) e)) × (now (out .exit) ≡ put (now (out .entry)) at (endText (now (source .entry)) e)) ⌝ }
 {

@@ -10,6 +10,7 @@ use lib.Dec.{leb}
 use lib.ListN.{length, getD, drop, drop-of-length-le}
 use lib.Seq.{drop-cons}
 use borrow.Author.Tests.{le-leb, lt-leb}
+use Rattle.alphabet.specs.Cells.{within}
 use Rattle.frames.specs.declared.FrameState.{FrameState}
 use Rattle.frames.specs.Frames.{digitValue}
 use Rattle.frames.specs.Taking.{Standing, closes, orOther, withState, afterByte, Took, behind, takes, told}
@@ -19,31 +20,31 @@ use Rattle.frames.specs.Calls.{same-used}
 -- ---- a byte and the bounds of the digits
 module _ (b : ℕ) where
   pub below-digits : b < 48 → 16 ≡ orOther (digitValue b)
-  unfolding digitValue
+  unfolding digitValue within
   below-digits h = rw (lt-leb 48 b h, lt-leb 65 b (omega arith), lt-leb 97 b (omega arith))
 
   pub decimal-digit : 48 ≤ b → b ≤ 57 → b - 48 ≡ orOther (digitValue b)
-  unfolding digitValue
+  unfolding digitValue within
   decimal-digit h k = rw (le-leb 48 b h, le-leb b 57 k)
 
   pub below-upper : 57 < b → b < 65 → 16 ≡ orOther (digitValue b)
-  unfolding digitValue
+  unfolding digitValue within
   below-upper h k = rw (le-leb 48 b (omega arith), lt-leb b 57 h, lt-leb 65 b k, lt-leb 97 b (omega arith))
 
   pub upper-digit : 65 ≤ b → b ≤ 70 → b - 65 + 10 ≡ orOther (digitValue b)
-  unfolding digitValue
+  unfolding digitValue within
   upper-digit h k = rw (le-leb 48 b (omega arith), lt-leb b 57 (omega arith), le-leb 65 b h, le-leb b 70 k)
 
   pub below-lower : 70 < b → b < 97 → 16 ≡ orOther (digitValue b)
-  unfolding digitValue
+  unfolding digitValue within
   below-lower h k = rw (le-leb 48 b (omega arith), lt-leb b 57 (omega arith), le-leb 65 b (omega arith), lt-leb b 70 h, lt-leb 97 b k)
 
   pub lower-digit : 97 ≤ b → b ≤ 102 → b - 97 + 10 ≡ orOther (digitValue b)
-  unfolding digitValue
+  unfolding digitValue within
   lower-digit h k = rw (le-leb 48 b (omega arith), lt-leb b 57 (omega arith), le-leb 65 b (omega arith), lt-leb b 70 (omega arith), le-leb 97 b h, le-leb b 102 k)
 
   pub above-digits : 102 < b → 16 ≡ orOther (digitValue b)
-  unfolding digitValue
+  unfolding digitValue within
   above-digits h = rw (le-leb 48 b (omega arith), lt-leb b 57 (omega arith), le-leb 65 b (omega arith), lt-leb b 70 (omega arith), le-leb 97 b (omega arith), lt-leb b 102 h)
 
 -- ---- the program's number of a byte

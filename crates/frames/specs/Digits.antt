@@ -6,14 +6,16 @@ use mathlib.Core.Option.{Option, none, some}
 use native.Mathlib.Omega.{arith}
 use lib.Dec.{leb}
 use borrow.Author.Tests.{leb-true}
+use Rattle.alphabet.specs.Cells.{within}
 use Rattle.texts.specs.Tests.{and-true, none-some}
-use Rattle.frames.specs.Frames.{between, digitValue}
+use Rattle.frames.specs.Frames.{digitValue}
 
 -- a digit of one kind, or one of the kinds behind it
-kind : (a z b value v : ℕ) (others : Option ℕ) → (a ≤ b → b ≤ z → value < 16) → (others ≡ some v → v < 16) → cond (between a z b) (some value) others ≡ some v → v < 16
-kind a z b value v others small rest e = go (between a z b) refl e
+kind : (a z b value v : ℕ) (others : Option ℕ) → (a ≤ b → b ≤ z → value < 16) → (others ≡ some v → v < 16) → cond (within a z b) (some value) others ≡ some v → v < 16
+unfolding within
+kind a z b value v others small rest e = go (within a z b) refl e
   where
-    go : (t : Bool) → between a z b ≡ t → cond t (some value) others ≡ some v → v < 16
+    go : (t : Bool) → within a z b ≡ t → cond t (some value) others ≡ some v → v < 16
     go true q f =
         let k = and-true (leb a b) (leb b z) q in
         let y : value ≡ v = cc in

@@ -2,24 +2,21 @@
 use Prim.Native.Nat.{ℕ, _+_, _-_, _*_}
 use Prim.Native.Char.{code}
 use mathlib.Core.Path.{_≡_}
-use mathlib.Core.Bool.{Bool, true, cond, _&&_}
+use mathlib.Core.Bool.{true, cond}
 use mathlib.Core.List.{List, [], _∷_, _++_}
 use mathlib.Core.Option.{Option, none, some}
-use lib.Dec.{leb}
 use lib.ListN.{length}
 use Rattle.texts.specs.Runs.{every, Some}
+use Rattle.alphabet.specs.Cells.{within}
 use Rattle.lines.specs.Lines.{lineEnd}
 use Rattle.lines.specs.Taking.{inLine}
-
-abbrev pub between : ℕ → ℕ → ℕ → Bool
-between a z b = leb a b && leb b z
 
 -- a hexadecimal digit, of either case
 unfoldable pub digitValue : ℕ → Option ℕ
 digitValue b =
-    cond (between (code "0") (code "9") b) (some (b - code "0"))
-    (cond (between (code "A") (code "F") b) (some (b - code "A" + 10))
-    (cond (between (code "a") (code "f") b) (some (b - code "a" + 10)) none))
+    cond (within (code "0") (code "9") b) (some (b - code "0"))
+    (cond (within (code "A") (code "F") b) (some (b - code "A" + 10))
+    (cond (within (code "a") (code "f") b) (some (b - code "a" + 10)) none))
 
 -- two digits are a byte
 abbrev pub twoDigits : Option ℕ → Option ℕ → Option ℕ
@@ -42,7 +39,7 @@ bytesOf (d ∷ e ∷ l) = andMore (twoDigits (digitValue d) (digitValue e)) (byt
 -- 1 to 32 bytes
 abbrev pub ofSize : Option (List ℕ) → Option (List ℕ)
 ofSize none = none
-ofSize (some s) = cond (between 1 32 (length s)) (some s) none
+ofSize (some s) = cond (within 1 32 (length s)) (some s) none
 
 -- the bytes of a line, and none of a bad line
 unfoldable pub frame : List ℕ → Option (List ℕ)

@@ -11,6 +11,7 @@ use lib.Dec.{leb, ltb, eqb}
 use lib.ListN.{length, take, set, length-append, length-set}
 use lib.Seq.{append-snoc, length-take-le, take-suc-set}
 use borrow.Author.Tests.{le-leb, lt-leb, leb-true, leb-false, le-ltb, ltb-true, ltb-false, eq-eqb, ne-eqb, eqb-false, not-true}
+use Rattle.alphabet.specs.Cells.{within}
 use Rattle.texts.specs.Tests.{none-some, and-true, left-or, right-or}
 use Rattle.texts.specs.Runs.{every, Some}
 use Rattle.lines.specs.Lines.{lineEnd, Held, Held.whole, Held.tooLong, held}
@@ -243,7 +244,7 @@ line-bytes (d ∷ []) s h e = absurd (none-some e)
 line-bytes (d ∷ b ∷ l) s h e = some-bytes (twoDigits (digitValue d) (digitValue b)) (bytesOf l) s e
 
 whole-line : (l : List ℕ) → 1 ≤ length l → upTo 0 (bytesOf l) ≡ frame l
-unfolding frame
+unfolding frame within
 whole-line l h = go (bytesOf l) refl
   where
     go : (o : Option (List ℕ)) → bytesOf l ≡ o → upTo 0 o ≡ ofSize o

@@ -8,6 +8,7 @@ use mathlib.Core.Option.{some}
 use native.Mathlib.Omega.{arith}
 use lib.ListN.{length}
 use borrow.Author.Tests.{le-leb, lt-leb, ne-eqb}
+use Rattle.alphabet.specs.Cells.{within}
 use Rattle.texts.specs.Tests.{true-and}
 use Rattle.texts.specs.Runs.{every}
 use Rattle.lines.specs.Lines.{lineEnd}
@@ -36,7 +37,7 @@ sent (l ∷ ls) = l ++ (lineEnd ∷ sent ls)
 
 -- ---- a digit has its value
 value : {d v : ℕ} → Digit d v → digitValue d ≡ some v
-unfolding digitValue
+unfolding digitValue within
 value (decimal v h) = rw (le-leb 48 (48 + v) (omega arith), le-leb (48 + v) 57 (omega arith)) (ap (λ (n : ℕ). some n) (omega arith))
 value (upper v h) = rw (le-leb 48 (65 + v) (omega arith), lt-leb (65 + v) 57 (omega arith), le-leb 65 (65 + v) (omega arith), le-leb (65 + v) 70 (omega arith)) (ap (λ (n : ℕ). some n) (omega arith))
 value (lower v h) =
@@ -66,7 +67,7 @@ spelled-some (byte d e more) h = omega arith
 
 -- ---- the lines of a text have its bytes
 pub framed-text : {ls : List (List ℕ)} {t : List ℕ} → Framed ls t → textOf ls ≡ some t
-unfolding textOf frame
+unfolding textOf frame within
 framed-text noFrame = refl
 framed-text (sentFrame {l} {a} spells h k more) = rw (spelled-bytes spells, le-leb 1 (length a) h, le-leb (length a) 32 k, framed-text more)
 

@@ -188,7 +188,7 @@ fn inv(table: &[u8; 256], s: &[u8], at: usize) -> NaEditRead
 }
 
 // The edit at the front of s: the alternatives in the crate's order.
-pub fn na_edit_at(table: &[u8; 256], s: &[u8], at: usize) -> NaEditRead
+fn na_edit_at(table: &[u8; 256], s: &[u8], at: usize) -> NaEditRead
     requires { ⌜ (at + length (now s) ≤ 4096) × IsTable (now table) ⌝ }
     ensures { λ r. ⌜ r ≡ naEditAnswer at (naEditLang nucleotide nucleotides .parse (now (s .entry))) ⌝ }
 {
