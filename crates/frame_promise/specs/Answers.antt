@@ -1,13 +1,13 @@
 -- Change request 1: the answer of a text, what one call gives, and a stream that is fed by calls.
-use Prim.Native.Nat.{ℕ}
+use Prim.Native.Nat.{ℕ, _≤_}
 use mathlib.Core.Path.{_≡_}
 use mathlib.Core.Bool.{true, false}
 use mathlib.Core.List.{List, [], _∷_, _++_}
 use mathlib.Core.Option.{Option, none, some}
-use lib.ListN.{drop}
+use lib.ListN.{length, take, drop}
 use Rattle.record.specs.declared.HgvsVariant.{HgvsVariant}
 use Rattle.grammar.specs.Texts.{allLetters}
-use Rattle.promise.specs.Outcome.{Outcome, Outcome.refused}
+use Rattle.promise.specs.Outcome.{Outcome, Outcome.refused, limit}
 use Rattle.promise.specs.Reading.{Reads}
 use Rattle.lines.specs.Lines.{Held, Held.whole, Held.tooLong}
 use Rattle.frames.specs.declared.FrameState.{FrameState}
@@ -22,7 +22,23 @@ pub data TextAnswer (ls : List (List ℕ)) : Answer → Type 0 where
   badLine : textOf ls ≡ none → TextAnswer ls (refused 8 0)
   read : {t : List ℕ} {o : Answer} → textOf ls ≡ some t → Reads allLetters t o → TextAnswer ls o
 
--- the answer of what is gathered of a text: a text that the buffer does not hold is refused as one that is too long
+-- what is told at an empty line: the answer, and the bytes at the buffer's front
+pub record Told : Type 0 where
+  pub answer : Answer
+  pub front : List ℕ
+
+-- they are the text's, so that the answer's spans and its place are of them; one that is too long stands nowhere
+pub record TextTold (ls : List (List ℕ)) (told : Told) : Type 0 where
+  pub answers : TextAnswer ls (told .answer)
+  pub fronts : (t : List ℕ) → textOf ls ≡ some t → length t ≤ limit → told .front ≡ t
+
+-- every text has its answer
+pub data AllTold : List (List (List ℕ)) → List Told → Type 0 where
+  noText : AllTold [] []
+  nextText : {ls : List (List ℕ)} {t : Told} {texts : List (List (List ℕ))} {told : List Told} → TextTold ls t → AllTold texts told → AllTold (ls ∷ texts) (t ∷ told)
+
+-- ---- one call
+-- the answer of what is gathered of a text
 pub data Says : Option Held → Answer → Type 0 where
   saysBad : Says none (refused 8 0)
   saysLong : Says (some tooLong) (refused 1 0)
@@ -33,24 +49,23 @@ pub data Gives (t : Took) : Option Answer → FrameState → Type 0 where
   silent : t .ended ≡ false → Gives t none (t .at .state)
   answered : {o : Answer} → t .ended ≡ true → Says (gathered (t .at)) o → Gives t (some o) fresh
 
--- what a call with a piece gives: how many bytes it took, the answer, and where the stream stands
-pub record Feeds (g : Standing) (piece : List ℕ) (used : ℕ) (answer : Option Answer) (after : Standing) : Type 0 where
+-- what a call with a piece and a buffer of 4,096 bytes gives: how many bytes it took, how many of the text are at the buffer's front, the
+-- answer, and where the stream stands
+pub record Feeds (g : Standing) (piece : List ℕ) (used len : ℕ) (answer : Option Answer) (after : Standing) : Type 0 where
+  pub room-is : length (g .buffer) ≡ limit
   pub used-is : used ≡ takes g piece .used
+  pub len-is : len ≡ takes g piece .at .state .len
   pub gives : Gives (takes g piece) answer (after .state)
   pub buffer-is : after .buffer ≡ takes g piece .at .buffer
 
--- the answers in turn
-abbrev pub said : Option Answer → List Answer
-said none = []
-said (some o) = o ∷ []
+-- ---- a stream
+-- what a call tells
+abbrev pub told : Option Answer → ℕ → Standing → List Told
+told none len after = []
+told (some o) len after = record { answer = o; front = take len (after .buffer) } ∷ []
 
--- a stream is fed by calls: each has any front of what is left of the stream, of any size, and takes some of it
-pub data Feeding : Standing → List ℕ → List Answer → Standing → Type 0 where
-  done : {g : Standing} → Feeding g [] [] g
-  call : {g after end : Standing} (piece rest : List ℕ) {used : ℕ} {answer : Option Answer} {answers : List Answer}
-      → Feeds g piece used answer after → Feeding after (drop used piece ++ rest) answers end → Feeding g (piece ++ rest) (said answer ++ answers) end
-
--- every text has its answer
-pub data AllAnswered : List (List (List ℕ)) → List Answer → Type 0 where
-  noText : AllAnswered [] []
-  nextText : {ls : List (List ℕ)} {o : Answer} {texts : List (List (List ℕ))} {answers : List Answer} → TextAnswer ls o → AllAnswered texts answers → AllAnswered (ls ∷ texts) (o ∷ answers)
+-- it is fed by calls: each has any front of what is left of the stream, of any size, and takes some of it
+pub data Feeding : Standing → List ℕ → List Told → Standing → Type 0 where
+  done : {g : Standing} → length (g .buffer) ≡ limit → Feeding g [] [] g
+  call : {g after end : Standing} (piece rest : List ℕ) {used len : ℕ} {answer : Option Answer} {more : List Told}
+      → Feeds g piece used len answer after → Feeding after (drop used piece ++ rest) more end → Feeding g (piece ++ rest) (told answer len after ++ more) end

@@ -1,11 +1,12 @@
--- Every text has an answer, and every call an outcome.
+-- Every text has an answer, every call an outcome, and every stream can be fed.
 use Prim.Native.Nat.{ℕ, _≤_}
-use mathlib.Core.Path.{_≡_, refl}
+use native.Mathlib.Omega.{arith}
+use mathlib.Core.Path.{_≡_, refl, ap, _∙_}
 use mathlib.Core.Bool.{Bool, true, false}
-use mathlib.Core.List.{List}
+use mathlib.Core.List.{List, [], _∷_, _++_}
 use mathlib.Core.Option.{Option, none, some}
 use lib.Dec.{leb}
-use lib.ListN.{length}
+use lib.ListN.{length, drop}
 use borrow.Author.Tests.{leb-true, leb-false}
 use Rattle.grammar.specs.Texts.{Text, allLetters}
 use Rattle.grammar.specs.Records.{recordAt}
@@ -18,7 +19,9 @@ use Rattle.promise.specs.Reading.{Reads, Reads.tooLong, Reads.notInGrammar, Rea
 use Rattle.lines.specs.Lines.{Held, Held.whole, Held.tooLong}
 use Rattle.frames.specs.Frames.{textOf}
 use Rattle.frames.specs.Taking.{fresh, Standing, takes, gathered}
-use Rattle.frame_promise.specs.Answers.{Answer, TextAnswer, TextAnswer.badLine, TextAnswer.read, Says, Says.saysBad, Says.saysLong, Says.saysRead, Gives.silent, Gives.answered, Feeds}
+use Rattle.frames.specs.Calls.{used-within, used-some}
+use Rattle.frames.specs.Room.{takes-room}
+use Rattle.frame_promise.specs.Answers.{Answer, TextAnswer, TextAnswer.badLine, TextAnswer.read, Says, Says.saysBad, Says.saysLong, Says.saysRead, Told, Gives.silent, Gives.answered, Feeds, told, Feeding, Feeding.done, Feeding.call}
 
 module _ (t : List ℕ) where
   fitting-some : length t ≤ limit → (o : Option Text) → parseText allLetters alphabets t ≡ o → (a : Answer) × Reads allLetters t a
@@ -48,11 +51,28 @@ says-some none = (refused 8 0, saysBad)
 says-some (some tooLong) = (refused 1 0, saysLong)
 says-some (some (whole t)) = let r = reads-some t in (r .0, saysRead (r .1))
 
-pub every-call : (g : Standing) (piece : List ℕ) → (used : ℕ) × (answer : Option Answer) × (after : Standing) × Feeds g piece used answer after
-every-call g piece = go (takes g piece .ended) refl
+-- with a buffer of 4,096 bytes
+pub every-call : (g : Standing) → length (g .buffer) ≡ limit → (piece : List ℕ) → (used : ℕ) × (len : ℕ) × (answer : Option Answer) × (after : Standing) × Feeds g piece used len answer after
+every-call g room piece = go (takes g piece .ended) refl
   where
-    go : (b : Bool) → takes g piece .ended ≡ b → (used : ℕ) × (answer : Option Answer) × (after : Standing) × Feeds g piece used answer after
-    go false e = (takes g piece .used, none, takes g piece .at, record { used-is = refl; gives = silent e; buffer-is = refl })
+    go : (b : Bool) → takes g piece .ended ≡ b → (used : ℕ) × (len : ℕ) × (answer : Option Answer) × (after : Standing) × Feeds g piece used len answer after
+    go false e = (takes g piece .used, takes g piece .at .state .len, none, takes g piece .at, record { room-is = room; used-is = refl; len-is = refl; gives = silent e; buffer-is = refl })
     go true e =
-        let a = says-some (gathered (takes g piece .at)) in
-        (takes g piece .used, some (a .0), record { state = fresh; buffer = takes g piece .at .buffer }, record { used-is = refl; gives = answered e (a .1); buffer-is = refl })
+        let a = says-some (gathered (takes g piece .at)) in (
+          takes g piece .used,
+          takes g piece .at .state .len,
+          some (a .0),
+          record { state = fresh; buffer = takes g piece .at .buffer },
+          record { room-is = room; used-is = refl; len-is = refl; gives = answered e (a .1); buffer-is = refl },
+        )
+
+-- byte by byte, say
+pub every-feeding : (g : Standing) → length (g .buffer) ≡ limit → (s : List ℕ) → (ts : List Told) × (end : Standing) × Feeding g s ts end
+every-feeding g room [] = ([], g, done room)
+every-feeding g room (b ∷ s) =
+    let c = every-call g room (b ∷ []) in
+    let f = c .4 in
+    let one : c .0 ≡ 1 = omega (arith, f .used-is, used-within g (b ∷ []), used-some g (b ∷ []) (omega arith)) in
+    let more = every-feeding (c .3) (ap length (f .buffer-is) ∙ takes-room g (b ∷ []) ∙ room) s in
+    let next : Feeding (c .3) (drop (c .0) (b ∷ []) ++ s) (more .0) (more .1) = rw one (more .2) in
+    (told (c .2) (c .1) (c .3) ++ more .0, more .1, call (b ∷ []) s f next)

@@ -10,7 +10,7 @@ use Rattle.promise.specs.Outcome.{Outcome.given, Outcome.refused}
 use Rattle.frames.specs.declared.FrameState.{FrameState}
 use Rattle.frames.specs.Taking.{Standing}
 use Rattle.frame_promise.specs.Answers.{Answer, Feeds}
-use Rattle.frame_promise.specs.Cuts.{one-call}
+use Rattle.frame_promise.specs.OneAnswer.{one-call}
 use Rattle.frame_reader.specs.declared.FrameAnswer.{FrameAnswer}
 use Rattle.frame_reader.specs.declared.FrameAnswer.the-variants.{Unfinished, BadLine, Read}
 use Rattle.frame_reader.specs.declared.Fed.{Fed}
@@ -33,12 +33,12 @@ frame-case (Read (R.DoesNotFit place)) = refl
 
 -- the contract of `feed`
 abbrev pub Contract : Standing → List ℕ → Fed → List ℕ → Type 0
-Contract g piece r buffer = Feeds g piece (r .used) (frameOutcome (r .answer)) (record { state = r .state; buffer = buffer })
+Contract g piece r buffer = Feeds g piece (r .used) (r .len) (frameOutcome (r .answer)) (record { state = r .state; buffer = buffer })
 
-same-fed : {m n : ℕ} {s u : FrameState} {a b : FrameAnswer} → m ≡ n → s ≡ u → a ≡ b → _≡_ {A = Fed} (record { used = m; state = s; answer = a }) (record { used = n; state = u; answer = b })
-same-fed p q r = rw (p, q, r)
+same-fed : {m n k l : ℕ} {s u : FrameState} {a b : FrameAnswer} → m ≡ n → k ≡ l → s ≡ u → a ≡ b → _≡_ {A = Fed} (record { used = m; len = k; state = s; answer = a }) (record { used = n; len = l; state = u; answer = b })
+same-fed p q r s = rw (p, q, r, s)
 
 pub one-fed : (g : Standing) (piece : List ℕ) (a b : Fed) (x y : List ℕ) → Contract g piece a x → Contract g piece b y → (a ≡ b) × (x ≡ y)
 one-fed g piece a b x y p q =
     let c = one-call p q in
-    (same-fed (c .0) (ap (λ (z : Standing). z .state) (c .2)) (sym (frame-case (a .answer)) ∙ ap frameCase (c .1) ∙ frame-case (b .answer)), ap (λ (z : Standing). z .buffer) (c .2))
+    (same-fed (c .0) (c .1) (ap (λ (z : Standing). z .state) (c .3)) (sym (frame-case (a .answer)) ∙ ap frameCase (c .2) ∙ frame-case (b .answer)), ap (λ (z : Standing). z .buffer) (c .3))

@@ -11,9 +11,11 @@ pub enum FrameAnswer {
     Read(ReadAnswer),
 }
 
-// How many bytes of a piece were taken, the text so far, and the answer of the text that an empty line ended.
+// How many bytes of a piece were taken, how many of the text are at the buffer's front, the text so far, and the answer of the text that an
+// empty line ended.
 pub struct Fed {
     pub used: usize,
+    pub len: usize,
     pub state: FrameState,
     pub answer: FrameAnswer,
 }
@@ -36,14 +38,16 @@ fn answer_of(state: FrameState, buffer: &[u8]) -> FrameAnswer
 }
 
 // Takes the bytes of a piece up to an empty line, or all of them; the buffer holds the text so far.
-pub fn feed(state: FrameState, piece: &[u8], buffer: &mut [u8]) -> Fed
-    ensures { λ r. ⌜ Feeds (record { state = state; buffer = now (buffer .entry) }) (now (piece .entry)) (r .used) (frameOutcome (r .answer)) (record { state = r .state; buffer = now (buffer .exit) }) ⌝ }
+pub fn feed(state: FrameState, piece: &[u8], buffer: &mut [u8; 4096]) -> Fed
+    ensures { λ r. ⌜ Feeds (record { state = state; buffer = now (buffer .entry) }) (now (piece .entry)) (r .used) (r .len) (frameOutcome (r .answer)) (record { state = r .state; buffer = now (buffer .exit) }) ⌝ }
 {
     let t = frames::take(piece, buffer, state);
     let next = t.state;
+    let len = next.len;
     if !t.ended {
         return Fed {
             used: t.used,
+            len,
             state: next,
             answer: FrameAnswer::Unfinished,
         };
@@ -52,6 +56,7 @@ pub fn feed(state: FrameState, piece: &[u8], buffer: &mut [u8]) -> Fed
     let start = frames::fresh();
     Fed {
         used: t.used,
+        len,
         state: start,
         answer,
     }

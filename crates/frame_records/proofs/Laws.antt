@@ -8,5 +8,5 @@ use Rattle.frames.specs.Calls.{used-within, used-some}
 use Rattle.frame_promise.specs.Answers.{Answer, Feeds}
 
 -- some of the piece is used
-pub fed-used : (g : Standing) (piece : List ℕ) {used : ℕ} {answer : Option Answer} {after : Standing} → Feeds g piece used answer after → (used ≤ length piece) × (1 ≤ length piece → 1 ≤ used)
+pub fed-used : (g : Standing) (piece : List ℕ) {used len : ℕ} {answer : Option Answer} {after : Standing} → Feeds g piece used len answer after → (used ≤ length piece) × (1 ≤ length piece → 1 ≤ used)
 fed-used g piece f = rw (f .used-is) (used-within g piece, used-some g piece)

@@ -38,7 +38,7 @@ fn put_answer(buffer: &[u8], out: &mut [u8], answer: FrameAnswer) -> usize
 }
 
 // One call.
-fn turn(state: FrameState, piece: &[u8], buffer: &mut [u8], out: &mut [u8]) -> Shown
+fn turn(state: FrameState, piece: &[u8], buffer: &mut [u8; 4096], out: &mut [u8]) -> Shown
     ensures { λ r. ⌜ (r .used ≤ length (now (piece .entry))) × (1 ≤ length (now (piece .entry)) → 1 ≤ r .used) × (r .at ≤ length (now (out .entry))) ⌝ }
 {
     let f = frame_reader::feed(state, piece, buffer);
@@ -64,7 +64,7 @@ fn call_end(i: usize, n: usize) -> usize
 }
 
 // All of what was read, while the answers can be written.
-fn over(piece: &[u8], buffer: &mut [u8], start: FrameState, out: &mut [u8]) -> Gone {
+fn over(piece: &[u8], buffer: &mut [u8; 4096], start: FrameState, out: &mut [u8]) -> Gone {
     let mut i: usize = 0;
     let mut state = start;
     while i < piece.len() {
@@ -84,7 +84,7 @@ fn over(piece: &[u8], buffer: &mut [u8], start: FrameState, out: &mut [u8]) -> G
     Gone { going: true, state }
 }
 
-fn once(input: &mut [u8], buffer: &mut [u8], state: FrameState, out: &mut [u8]) -> Gone {
+fn once(input: &mut [u8], buffer: &mut [u8; 4096], state: FrameState, out: &mut [u8]) -> Gone {
     let got = libc::read(STDIN_FILENO, input);
     if got <= 0 {
         return Gone {
@@ -96,7 +96,7 @@ fn once(input: &mut [u8], buffer: &mut [u8], state: FrameState, out: &mut [u8]) 
     over(&input[..n], buffer, state, out)
 }
 
-fn every(input: &mut [u8], buffer: &mut [u8], out: &mut [u8]) {
+fn every(input: &mut [u8], buffer: &mut [u8; 4096], out: &mut [u8]) {
     let mut state = frames::fresh();
     let mut turns = u64::MAX;
     while turns > 0 {

@@ -1,22 +1,20 @@
--- A stream that comes by calls: what is gathered of each text that an empty line ends, and where the stream stands at the end.
+-- A stream that comes by calls: where it stands at each empty line that ends a text, and at the end.
 use Prim.Native.Nat.{ℕ, suc, _≤_}
 use mathlib.Core.Path.{_≡_, refl, ap, _∙_}
 use mathlib.Core.Bool.{Bool, true, false, cond}
 use mathlib.Core.List.{List, [], _∷_, _++_}
-use mathlib.Core.Option.{Option}
 use native.Mathlib.Omega.{arith}
 use lib.ListN.{length, drop}
-use Rattle.lines.specs.Lines.{Held}
 use Rattle.texts.specs.Tests.{clash}
-use Rattle.frames.specs.Taking.{fresh, Standing, closes, withState, afterByte, Took, oneMore, behind, takes, gathered}
+use Rattle.frames.specs.Taking.{fresh, Standing, closes, withState, afterByte, Took, oneMore, behind, takes}
 
 pub record Passed : Type 0 where
-  pub texts : List (Option Held)
+  pub texts : List Standing
   pub at : Standing
 
 -- a text, and then those behind it
-abbrev pub thenMore : Option Held → Passed → Passed
-thenMore t p = record { texts = t ∷ p .texts; at = p .at }
+abbrev pub thenMore : Standing → Passed → Passed
+thenMore g p = record { texts = g ∷ p .texts; at = p .at }
 
 -- behind an empty line nothing has come of the next text
 abbrev pub restarted : Standing → Standing
@@ -24,11 +22,11 @@ restarted g = withState g fresh
 
 unfoldable pub passes : Standing → List ℕ → Passed
 passes g [] = record { texts = []; at = g }
-passes g (b ∷ s) = cond (closes (g .state) b) (thenMore (gathered g) (passes (restarted g) s)) (passes (afterByte g b) s)
+passes g (b ∷ s) = cond (closes (g .state) b) (thenMore g (passes (restarted g) s)) (passes (afterByte g b) s)
 
 -- behind one call, with what is left of the stream
 abbrev pub afterCall : Took → List ℕ → Passed
-afterCall t rest = cond (t .ended) (thenMore (gathered (t .at)) (passes (restarted (t .at)) rest)) (passes (t .at) rest)
+afterCall t rest = cond (t .ended) (thenMore (t .at) (passes (restarted (t .at)) rest)) (passes (t .at) rest)
 
 -- a call with any front of the stream leaves the rest of the stream to the next
 pub call-passes : (g : Standing) (piece rest : List ℕ) → passes g (piece ++ rest) ≡ afterCall (takes g piece) (drop (takes g piece .used) piece ++ rest)
@@ -38,7 +36,7 @@ call-passes g (b ∷ s) rest = go (closes (g .state) b) (call-passes (afterByte 
   where
     go : (t : Bool) → passes (afterByte g b) (s ++ rest) ≡ afterCall (takes (afterByte g b) s) (drop (takes (afterByte g b) s .used) s ++ rest)
         → let u = cond t (record { used = 1; ended = true; at = g }) (oneMore (takes (afterByte g b) s)) in
-        cond t (thenMore (gathered g) (passes (restarted g) (s ++ rest))) (passes (afterByte g b) (s ++ rest)) ≡ afterCall u (drop (u .used) (b ∷ s) ++ rest)
+        cond t (thenMore g (passes (restarted g) (s ++ rest))) (passes (afterByte g b) (s ++ rest)) ≡ afterCall u (drop (u .used) (b ∷ s) ++ rest)
     go true e = refl
     go false e = e
 

@@ -1,5 +1,5 @@
 -- What is gathered of a line: its bytes where it is a frame, and nothing where it is bad.
-use Prim.Native.Nat.{ℕ, suc, _+_, _*_, _%_, _≤_, _<_}
+use Prim.Native.Nat.{ℕ, _+_, _*_, _%_, _≤_, _<_}
 use mathlib.Core.Path.{_≡_, refl, sym, ap, _∙_}
 use mathlib.Core.Bool.{Bool, true, false, cond, not, _||_}
 use mathlib.Core.List.{List, [], _∷_, _++_, foldl, append-nil}
@@ -8,7 +8,7 @@ use native.Mathlib.Omega.{arith}
 use native.Mathlib.Nat.{zero-add}
 use native.Mathlib.Numerals.{add-one}
 use lib.Dec.{leb, ltb, eqb}
-use lib.ListN.{length, take, set, length-append, length-set}
+use lib.ListN.{length, take, set, length-append}
 use lib.Seq.{append-snoc, length-take-le, take-suc-set}
 use borrow.Author.Tests.{le-leb, lt-leb, leb-true, leb-false, le-ltb, ltb-true, ltb-false, eq-eqb, ne-eqb, eqb-false, not-true}
 use Rattle.alphabet.specs.Cells.{within}
@@ -20,46 +20,8 @@ use Rattle.lines.specs.Laws.{held-fits, held-long, fits-held, long-held}
 use Rattle.frames.specs.Frames.{digitValue, twoDigits, andMore, bytesOf, ofSize, frame, joined}
 use Rattle.frames.specs.Digits.{digit-small}
 use Rattle.frames.specs.Bytes.{or-false, added-room, added-full, after-other, after-full, after-first, after-second}
+use Rattle.frames.specs.Room.{Fits, added-fits, bytes-fit}
 use Rattle.frames.specs.Taking.{Standing, lineClosed, spoiled, halved, added, withState, digitTaken, afterByte, gathered}
-
--- ---- the buffer keeps its length, and holds no more
-pub record Fits (room : ℕ) (g : Standing) : Type 0 where
-  pub room-is : length (g .buffer) ≡ room
-  pub within : g .state .len ≤ room
-
-module _ {room : ℕ} (g : Standing) (h : Fits room g) where
-  added-fits : (b : ℕ) → Fits room (added g b)
-  added-fits b = go (ltb (g .state .len) (length (g .buffer))) refl
-    where
-      go : (t : Bool) → ltb (g .state .len) (length (g .buffer)) ≡ t → Fits room (added g b)
-      go true e =
-          let k = ltb-true (g .state .len) (length (g .buffer)) e in
-          rw (added-room g b k) (record { room-is = length-set (g .buffer) (g .state .len) b ∙ h .room-is; within = omega (arith, h .room-is) })
-      go false e = rw (added-full g b (ltb-false (g .state .len) (length (g .buffer)) e)) (record { room-is = h .room-is; within = h .within })
-
-  digit-fits : (o : Option ℕ) → Fits room (digitTaken g o)
-  unfolding digitTaken
-  digit-fits none = record { room-is = h .room-is; within = h .within }
-  digit-fits (some v) = go (g .state .bad) (leb 64 (g .state .digits)) (eqb (g .state .digits % 2) 0)
-    where
-      go : (t u w : Bool)
-          → Fits room (cond t (withState g (spoiled (g .state))) (cond u (withState g (spoiled (g .state))) (cond w (withState g (halved (g .state) v)) (added g (g .state .high % 16 * 16 + v)))))
-      go true u w = record { room-is = h .room-is; within = h .within }
-      go false true w = record { room-is = h .room-is; within = h .within }
-      go false false true = record { room-is = h .room-is; within = h .within }
-      go false false false = added-fits (g .state .high % 16 * 16 + v)
-
-  byte-fits : (b : ℕ) → Fits room (afterByte g b)
-  unfolding afterByte
-  byte-fits b = go (eqb b lineEnd)
-    where
-      go : (t : Bool) → Fits room (cond t (withState g (lineClosed (g .state))) (digitTaken g (digitValue b)))
-      go true = record { room-is = h .room-is; within = h .within }
-      go false = digit-fits (digitValue b)
-
-pub bytes-fit : {room : ℕ} (g : Standing) → Fits room g → (s : List ℕ) → Fits room (foldl afterByte g s)
-bytes-fit g h [] = h
-bytes-fit g h (b ∷ s) = bytes-fit (afterByte g b) (byte-fits g h b) s
 
 -- ---- a bad text stays bad
 bad-digit : (g : Standing) → g .state .bad ≡ true → (o : Option ℕ) → digitTaken g o .state .bad ≡ true
@@ -89,6 +51,19 @@ bad-gathers g e = rw e
 
 bad-ended : (g : Standing) → g .state .bad ≡ true → gathered (ended g) ≡ none
 bad-ended g e = bad-gathers (ended g) (left-or (not (eqb (g .state .digits % 2) 0)) e)
+
+-- a text that is gathered whole stands at the buffer's front
+pub whole-front : (g : Standing) (t : List ℕ) → gathered g ≡ some (whole t) → take (g .state .len) (g .buffer) ≡ t
+unfolding gathered
+whole-front g t e = go (g .state .bad) (g .state .long || ltb (length (g .buffer)) (g .state .len)) e
+  where
+    front : List ℕ
+    front = take (g .state .len) (g .buffer)
+
+    go : (bad long : Bool) → cond bad none (some (cond long tooLong (whole front))) ≡ some (whole t) → front ≡ t
+    go true long q = absurd (none-some q)
+    go false true q = let z : _≡_ {A = ℕ} 0 1 = cc in absurd (omega arith)
+    go false false q = cc
 
 -- ---- a good text t, of which the buffer holds what it can
 pub record Good (room : ℕ) (t : List ℕ) (g : Standing) : Type 0 where
@@ -139,11 +114,11 @@ module _ {room : ℕ} {t : List ℕ} (g : Standing) (h : Good room t g) where
         go : (r : Bool) → ltb (g .state .len) (length (g .buffer)) ≡ r → Good room (t ++ (b ∷ [])) (added g b)
         go true e =
             let k = ltb-true (g .state .len) (length (g .buffer)) e in
-            let f : Fits room (added g b) = added-fits g (h .fits) b in
+            let f : Fits room (added g b) = added-fits g b (h .fits) in
             rw (added-room g b k) (record { fits = rw (added-room g b k) at f; good = h .good; holds = in-room k (g .state .long) (h .holds) })
         go false e =
             let k = ltb-false (g .state .len) (length (g .buffer)) e in
-            let f : Fits room (added g b) = added-fits g (h .fits) b in
+            let f : Fits room (added g b) = added-fits g b (h .fits) in
             rw (added-full g b k) (record { fits = rw (added-full g b k) at f; good = h .good; holds = no-room k (g .state .long) (h .holds) })
 
 -- ---- the rest l of a line, of which m bytes have come

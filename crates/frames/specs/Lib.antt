@@ -4,6 +4,7 @@ pub mod Digits
 pub mod Examples
 pub mod Frames
 pub mod Gathering
+pub mod Room
 pub mod Spelling
 pub mod Splits
 pub mod Streams

@@ -142,14 +142,14 @@ module _ (buffer : List ℕ) {ls : List (List ℕ)} {s : List ℕ} (lines : Line
 
 -- ---- each text of a stream that an empty line ends, in turn; and none of one that is not finished
 pub stream-passes : {texts : List (List (List ℕ))} {rest : List (List ℕ)} {p s : List ℕ} → Stream texts rest p s → (buffer : List ℕ)
-    → passes (startIn buffer) s .texts ≡ map (λ ls. gatheredIn (length buffer) (textOf ls)) texts
+    → map gathered (passes (startIn buffer) s .texts) ≡ map (λ ls. gatheredIn (length buffer) (textOf ls)) texts
 unfolding passes
 stream-passes (unfinished {ls} {s} {p} lines e) buffer =
     let w = went buffer lines in
     let q : Leads (startIn buffer) (s ++ p) (foldl afterByte (w .to) p) = leads-then (w .leads) (line-leads (w .to) p e) in
-    ap (λ (x : Passed). x .texts) (rw append-nil at (leads-passes q []))
+    ap (λ (x : Passed). map gathered (x .texts)) (rw append-nil at (leads-passes q []))
 stream-passes (text {ls} {s} {texts} {rest} {p} {r} lines more) buffer =
     let w = went buffer lines in
-    let next : passes (startIn buffer) (s ++ (lineEnd ∷ r)) ≡ thenMore (gathered (w .to)) (passes (startIn (w .to .buffer)) r) = leads-passes (w .leads) (lineEnd ∷ r) ∙ one-call (w .to) (lineEnd ∷ r) ∙ ap (λ (t : Took). afterCall t (drop (t .used) (lineEnd ∷ r))) (text-ends (w .to) (w .is-open .no-digit) r) in
-    let m : passes (startIn (w .to .buffer)) r .texts ≡ map (λ ls. gatheredIn (length buffer) (textOf ls)) texts = rw (w .is-open .fits .room-is) at (stream-passes more (w .to .buffer)) in
-    ap (λ (x : Passed). x .texts) next ∙ rw (w .is-open .gathers, m)
+    let next : passes (startIn buffer) (s ++ (lineEnd ∷ r)) ≡ thenMore (w .to) (passes (startIn (w .to .buffer)) r) = leads-passes (w .leads) (lineEnd ∷ r) ∙ one-call (w .to) (lineEnd ∷ r) ∙ ap (λ (t : Took). afterCall t (drop (t .used) (lineEnd ∷ r))) (text-ends (w .to) (w .is-open .no-digit) r) in
+    let m : map gathered (passes (startIn (w .to .buffer)) r .texts) ≡ map (λ ls. gatheredIn (length buffer) (textOf ls)) texts = rw (w .is-open .fits .room-is) at (stream-passes more (w .to .buffer)) in
+    ap (λ (x : Passed). map gathered (x .texts)) next ∙ rw (w .is-open .gathers, m)

@@ -8,14 +8,12 @@ use Rattle.frame_reader.proofs.feed.Tie as tie
 take-requires : tie.Need-take-requires
 take-requires c κs = search needs
 
-same-length : tie.Need-same-length
-same-length c = search needs
-
 returns : tie.Need-returns
 returns c =
-    let t = c .before .before .before .before .before in
-    let a = t .before .before .before .before .args in
-    fed-silent (record { state = a .state; buffer = a .buffer .now }) (a .piece .now) (t .take .ensures) (not-true (t .take .result .ended) (c .if1 .taken))
+    let t = c .before .before .before in
+    let lent = t .before in
+    let a = lent .before .before .args in
+    fed-silent (record { state = a .state; buffer = a .buffer .now }) (lent .take-arg .given .0 .1) (a .piece .now) (t .take .ensures) (not-true (t .take .result .ended) (c .if1 .taken))
 
 answer-of-requires : tie.Need-answer-of-requires
 answer-of-requires c κs = search needs
@@ -23,25 +21,14 @@ answer-of-requires c κs = search needs
 fresh-requires : tie.Need-fresh-requires
 fresh-requires c κs = search needs
 
-same-length-2 : tie.Need-same-length-2
-same-length-2 c = search needs
-
 returns-2 : tie.Need-returns-2
 returns-2 c =
     let r = c .before in
-    let e = r .before .before in
-    let t = e .before .before .before .before .before in
-    let a = t .before .before .before .before .args in
-    fed-answered (record { state = a .state; buffer = a .buffer .now }) (a .piece .now) (t .take .ensures) (not-false (t .take .result .ended) (e .if1 .left)) (r .answer-of .ensures) (c .fresh .ensures)
+    let e = r .before .before .before in
+    let t = e .before .before .before in
+    let lent = t .before in
+    let a = lent .before .before .args in
+    fed-answered (record { state = a .state; buffer = a .buffer .now }) (lent .take-arg .given .0 .1) (a .piece .now) (t .take .ensures) (not-false (t .take .result .ended) (e .if1 .left)) (r .answer-of .ensures) (c .fresh .ensures)
 
 pub feed-spec : {M : Type 1} → statement M
-feed-spec =
-    tie.close
-    (tie.spec
-    take-requires
-    same-length
-    returns
-    answer-of-requires
-    fresh-requires
-    same-length-2
-    returns-2)
+feed-spec = tie.close (tie.spec take-requires returns answer-of-requires fresh-requires returns-2)

@@ -5,7 +5,7 @@ use Rattle.frame_records.proofs.every.Statement.{statement}
 use Rattle.frame_records.proofs.every.Tie as tie
 
 abbrev Inv-loop : tie.InvT-loop
-Inv-loop input₀ buffer₀ out₀ state₀ turns₀ input buffer out state turns = (length input ≡ length input₀) × (length buffer ≡ length buffer₀) × (length out ≡ length out₀)
+Inv-loop input₀ buffer₀ out₀ state₀ turns₀ input buffer out state turns = (length input ≡ length input₀) × (length out ≡ length out₀)
 
 abbrev μ-loop : tie.MeasureT-loop
 μ-loop input₀ buffer₀ out₀ state₀ turns₀ input buffer out state turns = turns
@@ -14,7 +14,7 @@ fresh-requires : tie.Need-fresh-requires Inv-loop μ-loop
 fresh-requires c κs = search needs
 
 loop-holds : tie.Need-loop-holds Inv-loop μ-loop
-loop-holds c = (refl, refl, refl)
+loop-holds c = (refl, refl)
 
 once-requires : tie.Need-once-requires Inv-loop μ-loop
 once-requires c κs = search needs
@@ -24,9 +24,6 @@ same-length c = search needs
 
 same-length-2 : tie.Need-same-length-2 Inv-loop μ-loop
 same-length-2 c = search needs
-
-same-length-3 : tie.Need-same-length-3 Inv-loop μ-loop
-same-length-3 c = search needs
 
 returns : tie.Need-returns Inv-loop μ-loop
 returns c = search needs
@@ -40,14 +37,11 @@ loop-less c = search needs
 loop-again : tie.Need-loop-again Inv-loop μ-loop
 loop-again c = search needs
 
+same-length-3 : tie.Need-same-length-3 Inv-loop μ-loop
+same-length-3 c = search needs
+
 same-length-4 : tie.Need-same-length-4 Inv-loop μ-loop
 same-length-4 c = search needs
-
-same-length-5 : tie.Need-same-length-5 Inv-loop μ-loop
-same-length-5 c = search needs
-
-same-length-6 : tie.Need-same-length-6 Inv-loop μ-loop
-same-length-6 c = search needs
 
 returns-2 : tie.Need-returns-2 Inv-loop μ-loop
 returns-2 c = search needs
@@ -63,12 +57,10 @@ every-spec =
     once-requires
     same-length
     same-length-2
-    same-length-3
     returns
     sub-turns
     loop-less
     loop-again
+    same-length-3
     same-length-4
-    same-length-5
-    same-length-6
     returns-2)

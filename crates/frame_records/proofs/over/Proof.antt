@@ -7,7 +7,7 @@ use Rattle.frame_records.proofs.over.Statement.{statement}
 use Rattle.frame_records.proofs.over.Tie as tie
 
 abbrev Inv-loop : tie.InvT-loop
-Inv-loop piece buffer₀ out₀ i₀ state₀ buffer out i state = (i ≤ length piece) × (length buffer ≡ length buffer₀) × (length out ≡ length out₀)
+Inv-loop piece buffer₀ out₀ i₀ state₀ buffer out i state = (i ≤ length piece) × (length out ≡ length out₀)
 
 abbrev μ-loop : tie.MeasureT-loop
 μ-loop piece buffer₀ out₀ i₀ state₀ buffer out i state = length piece - i
@@ -34,16 +34,13 @@ slice-reshare-prefix-write-all : tie.Need-slice-reshare-prefix-write-all Inv-loo
 slice-reshare-prefix-write-all c = search needs
 
 slice-aggregate-write-all : tie.Need-slice-aggregate-write-all Inv-loop μ-loop
-slice-aggregate-write-all c = let t = c .before .before .before .before .before .before in sym (length-take-le (t .turn .result .at) _ (search needs))
+slice-aggregate-write-all c = let t = c .before .before .before .before in sym (length-take-le (t .turn .result .at) _ (search needs))
 
 write-all-requires : tie.Need-write-all-requires Inv-loop μ-loop
 write-all-requires c κs = search needs
 
 same-length : tie.Need-same-length Inv-loop μ-loop
 same-length c = search needs
-
-same-length-2 : tie.Need-same-length-2 Inv-loop μ-loop
-same-length-2 c = search needs
 
 returns : tie.Need-returns Inv-loop μ-loop
 returns c = search needs
@@ -53,18 +50,15 @@ add-i c = search needs
 
 loop-less : tie.Need-loop-less Inv-loop μ-loop
 loop-less c =
-    let t = c .before .before .before .before .before .before .before .before .before in
+    let t = c .before .before .before .before .before .before .before in
     let some : 1 ≤ t .turn .result .used = t .turn .ensures .1 (search needs) in
     search needs
 
 loop-again : tie.Need-loop-again Inv-loop μ-loop
 loop-again c = search needs
 
-same-length-3 : tie.Need-same-length-3 Inv-loop μ-loop
-same-length-3 c = search needs
-
-same-length-4 : tie.Need-same-length-4 Inv-loop μ-loop
-same-length-4 c = search needs
+same-length-2 : tie.Need-same-length-2 Inv-loop μ-loop
+same-length-2 c = search needs
 
 returns-2 : tie.Need-returns-2 Inv-loop μ-loop
 returns-2 c = search needs
@@ -85,11 +79,9 @@ over-spec =
     slice-aggregate-write-all
     write-all-requires
     same-length
-    same-length-2
     returns
     add-i
     loop-less
     loop-again
-    same-length-3
-    same-length-4
+    same-length-2
     returns-2)
