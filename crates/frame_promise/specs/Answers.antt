@@ -22,20 +22,20 @@ pub data TextAnswer (ls : List (List ℕ)) : Answer → Type 0 where
   badLine : textOf ls ≡ none → TextAnswer ls (refused 8 0)
   read : {t : List ℕ} {o : Answer} → textOf ls ≡ some t → Reads allLetters t o → TextAnswer ls o
 
--- what is told at an empty line: the answer, and the bytes at the buffer's front
-pub record Told : Type 0 where
+-- the reply at an empty line: the answer, and the bytes at the buffer's front
+pub record Reply : Type 0 where
   pub answer : Answer
   pub front : List ℕ
 
--- they are the text's, so that the answer's spans and its place are of them; one that is too long stands nowhere
-pub record TextTold (ls : List (List ℕ)) (told : Told) : Type 0 where
-  pub answers : TextAnswer ls (told .answer)
-  pub fronts : (t : List ℕ) → textOf ls ≡ some t → length t ≤ limit → told .front ≡ t
+-- they are the text's, where the buffer holds it, so that the answer's spans and its place are of them
+pub record TextReply (ls : List (List ℕ)) (r : Reply) : Type 0 where
+  pub answers : TextAnswer ls (r .answer)
+  pub fronts : (t : List ℕ) → textOf ls ≡ some t → length t ≤ limit → r .front ≡ t
 
--- every text has its answer
-pub data AllTold : List (List (List ℕ)) → List Told → Type 0 where
-  noText : AllTold [] []
-  nextText : {ls : List (List ℕ)} {t : Told} {texts : List (List (List ℕ))} {told : List Told} → TextTold ls t → AllTold texts told → AllTold (ls ∷ texts) (t ∷ told)
+-- every text has its reply
+pub data AllReplied : List (List (List ℕ)) → List Reply → Type 0 where
+  noText : AllReplied [] []
+  nextText : {ls : List (List ℕ)} {r : Reply} {texts : List (List (List ℕ))} {rs : List Reply} → TextReply ls r → AllReplied texts rs → AllReplied (ls ∷ texts) (r ∷ rs)
 
 -- ---- one call
 -- the answer of what is gathered of a text
@@ -59,13 +59,13 @@ pub record Feeds (g : Standing) (piece : List ℕ) (used len : ℕ) (answer : Op
   pub buffer-is : after .buffer ≡ takes g piece .at .buffer
 
 -- ---- a stream
--- what a call tells
-abbrev pub told : Option Answer → ℕ → Standing → List Told
-told none len after = []
-told (some o) len after = record { answer = o; front = take len (after .buffer) } ∷ []
+-- a call's reply, where it answers
+abbrev pub replies : Option Answer → ℕ → Standing → List Reply
+replies none len after = []
+replies (some o) len after = record { answer = o; front = take len (after .buffer) } ∷ []
 
 -- it is fed by calls: each has any front of what is left of the stream, of any size, and takes some of it
-pub data Feeding : Standing → List ℕ → List Told → Standing → Type 0 where
+pub data Feeding : Standing → List ℕ → List Reply → Standing → Type 0 where
   done : {g : Standing} → length (g .buffer) ≡ limit → Feeding g [] [] g
-  call : {g after end : Standing} (piece rest : List ℕ) {used len : ℕ} {answer : Option Answer} {more : List Told}
-      → Feeds g piece used len answer after → Feeding after (drop used piece ++ rest) more end → Feeding g (piece ++ rest) (told answer len after ++ more) end
+  call : {g after end : Standing} (piece rest : List ℕ) {used len : ℕ} {answer : Option Answer} {more : List Reply}
+      → Feeds g piece used len answer after → Feeding after (drop used piece ++ rest) more end → Feeding g (piece ++ rest) (replies answer len after ++ more) end

@@ -1,4 +1,4 @@
--- However a stream is cut into calls, what is told of its texts and its state at the end are the same.
+-- However a stream is cut into calls, the replies to its texts and its state at the end are the same.
 use Prim.Native.Nat.{ℕ, _+_}
 use mathlib.Core.Path.{_≡_, refl, sym, _∙_}
 use mathlib.Core.Bool.{true, false}
@@ -10,7 +10,7 @@ use Rattle.promise.specs.Outcome.{limit}
 use Rattle.frames.specs.declared.FrameState.{FrameState}
 use Rattle.frames.specs.Taking.{Standing, Took, behind, takes, gathered}
 use Rattle.frames.specs.Calls.{Passed, restarted, passes, afterCall, call-passes, ended-first, cut-anywhere}
-use Rattle.frame_promise.specs.Answers.{Answer, Told, Says, Gives, Gives.silent, Gives.answered, Feeds, told, Feeding, Feeding.done, Feeding.call}
+use Rattle.frame_promise.specs.Answers.{Answer, Reply, Says, Gives, Gives.silent, Gives.answered, Feeds, replies, Feeding, Feeding.done, Feeding.call}
 use Rattle.frame_promise.specs.OneAnswer.{same-said, same-standing}
 
 -- ---- calls with one piece and then another, and a call with both
@@ -47,33 +47,33 @@ stops-there {g} {p = p} f q =
     record { room-is = f .room-is; used-is = rw e (f .used-is); len-is = rw e (f .len-is); gives = rw e (f .gives); buffer-is = rw e (f .buffer-is) }
 
 -- ---- a stream
-pub fed-room : {g end : Standing} {s : List ℕ} {ts : List Told} → Feeding g s ts end → length (g .buffer) ≡ limit
+pub fed-room : {g end : Standing} {s : List ℕ} {ts : List Reply} → Feeding g s ts end → length (g .buffer) ≡ limit
 fed-room (done h) = h
 fed-room (call piece rest f more) = f .room-is
 
--- where the stream stood at each empty line, and what was told there
-pub data AllSaid : List Standing → List Told → Type 0 where
+-- where the stream stood at each empty line, and the reply
+pub data AllSaid : List Standing → List Reply → Type 0 where
   nothingSaid : AllSaid [] []
-  nextSaid : {g : Standing} {o : Answer} {gs : List Standing} {ts : List Told} → Says (gathered g) o → AllSaid gs ts → AllSaid (g ∷ gs) (record { answer = o; front = take (g .state .len) (g .buffer) } ∷ ts)
+  nextSaid : {g : Standing} {o : Answer} {gs : List Standing} {ts : List Reply} → Says (gathered g) o → AllSaid gs ts → AllSaid (g ∷ gs) (record { answer = o; front = take (g .state .len) (g .buffer) } ∷ ts)
 
-same-told : {o p : Answer} (front : List ℕ) {ts us : List Told} → o ≡ p → ts ≡ us → _≡_ {A = List Told} (record { answer = o; front = front } ∷ ts) (record { answer = p; front = front } ∷ us)
-same-told front e f = rw (e, f)
+same-replies : {o p : Answer} (front : List ℕ) {ts us : List Reply} → o ≡ p → ts ≡ us → _≡_ {A = List Reply} (record { answer = o; front = front } ∷ ts) (record { answer = p; front = front } ∷ us)
+same-replies front e f = rw (e, f)
 
-same-all-said : {gs : List Standing} {ts us : List Told} → AllSaid gs ts → AllSaid gs us → ts ≡ us
+same-all-said : {gs : List Standing} {ts us : List Reply} → AllSaid gs ts → AllSaid gs us → ts ≡ us
 same-all-said nothingSaid nothingSaid = refl
-same-all-said (nextSaid {g} x xs) (nextSaid y ys) = same-told (take (g .state .len) (g .buffer)) (same-said x y) (same-all-said xs ys)
+same-all-said (nextSaid {g} x xs) (nextSaid y ys) = same-replies (take (g .state .len) (g .buffer)) (same-said x y) (same-all-said xs ys)
 
-abbrev Tells : Passed → List Told → Standing → Type 0
+abbrev Tells : Passed → List Reply → Standing → Type 0
 Tells p ts end = AllSaid (p .texts) ts × (end ≡ p .at)
 
-pub fed-tells : {g end : Standing} {s : List ℕ} {ts : List Told} → Feeding g s ts end → Tells (passes g s) ts end
+pub fed-tells : {g end : Standing} {s : List ℕ} {ts : List Reply} → Feeding g s ts end → Tells (passes g s) ts end
 unfolding passes
 fed-tells (done h) = (nothingSaid, refl)
 fed-tells {g = g} {end = end} (call {after = after} piece rest {used} {len} {answer} {more} f next) =
     rw (call-passes g piece rest, ← f .used-is) (go (takes g piece) (f .gives) refl (f .len-is) (f .buffer-is) (fed-tells next))
   where
     go : (t : Took) {answer : Option Answer} {s : FrameState} → Gives t answer s → after .state ≡ s → len ≡ t .at .state .len → after .buffer ≡ t .at .buffer
-        → Tells (passes after (drop used piece ++ rest)) more end → Tells (afterCall t (drop used piece ++ rest)) (told answer len after ++ more) end
+        → Tells (passes after (drop used piece ++ rest)) more end → Tells (afterCall t (drop used piece ++ rest)) (replies answer len after ++ more) end
     go t (silent e) q l b x = let z : after ≡ t .at = same-standing q b in rw e (rw z at x)
     go t (answered e says) q l b x =
         let z : after ≡ restarted (t .at) = same-standing q b in
@@ -81,5 +81,5 @@ fed-tells {g = g} {end = end} (call {after = after} piece rest {used} {len} {ans
         rw (e, l, b) (nextSaid says (y .0), y .1)
 
 -- however it is cut into calls
-pub fed-anyhow : {g : Standing} {s : List ℕ} {ts us : List Told} {x y : Standing} → Feeding g s ts x → Feeding g s us y → (ts ≡ us) × (x ≡ y)
+pub fed-anyhow : {g : Standing} {s : List ℕ} {ts us : List Reply} {x y : Standing} → Feeding g s ts x → Feeding g s us y → (ts ≡ us) × (x ≡ y)
 fed-anyhow f h = let p = fed-tells f in let q = fed-tells h in (same-all-said (p .0) (q .0), p .1 ∙ sym (q .1))

@@ -21,7 +21,7 @@ use Rattle.frames.specs.Frames.{textOf}
 use Rattle.frames.specs.Taking.{fresh, Standing, takes, gathered}
 use Rattle.frames.specs.Calls.{used-within, used-some}
 use Rattle.frames.specs.Room.{takes-room}
-use Rattle.frame_promise.specs.Answers.{Answer, TextAnswer, TextAnswer.badLine, TextAnswer.read, Says, Says.saysBad, Says.saysLong, Says.saysRead, Told, Gives.silent, Gives.answered, Feeds, told, Feeding, Feeding.done, Feeding.call}
+use Rattle.frame_promise.specs.Answers.{Answer, TextAnswer, TextAnswer.badLine, TextAnswer.read, Says, Says.saysBad, Says.saysLong, Says.saysRead, Reply, Gives.silent, Gives.answered, Feeds, replies, Feeding, Feeding.done, Feeding.call}
 
 module _ (t : List ℕ) where
   fitting-some : length t ≤ limit → (o : Option Text) → parseText allLetters alphabets t ≡ o → (a : Answer) × Reads allLetters t a
@@ -67,7 +67,7 @@ every-call g room piece = go (takes g piece .ended) refl
         )
 
 -- byte by byte, say
-pub every-feeding : (g : Standing) → length (g .buffer) ≡ limit → (s : List ℕ) → (ts : List Told) × (end : Standing) × Feeding g s ts end
+pub every-feeding : (g : Standing) → length (g .buffer) ≡ limit → (s : List ℕ) → (ts : List Reply) × (end : Standing) × Feeding g s ts end
 every-feeding g room [] = ([], g, done room)
 every-feeding g room (b ∷ s) =
     let c = every-call g room (b ∷ []) in
@@ -75,4 +75,4 @@ every-feeding g room (b ∷ s) =
     let one : c .0 ≡ 1 = omega (arith, f .used-is, used-within g (b ∷ []), used-some g (b ∷ []) (omega arith)) in
     let more = every-feeding (c .3) (ap length (f .buffer-is) ∙ takes-room g (b ∷ []) ∙ room) s in
     let next : Feeding (c .3) (drop (c .0) (b ∷ []) ++ s) (more .0) (more .1) = rw one (more .2) in
-    (told (c .2) (c .1) (c .3) ++ more .0, more .1, call (b ∷ []) s f next)
+    (replies (c .2) (c .1) (c .3) ++ more .0, more .1, call (b ∷ []) s f next)

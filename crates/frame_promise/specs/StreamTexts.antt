@@ -1,4 +1,4 @@
--- What is told of the texts of a stream, however it is fed: each text that an empty line ends has its answer, and stands at the buffer's front.
+-- The replies to the texts of a stream, however it is fed: each text that an empty line ends has its answer, and stands at the buffer's front.
 use Prim.Native.Nat.{ℕ, _+_, _≤_}
 use mathlib.Core.Path.{_≡_, refl, sym, ap, _∙_}
 use mathlib.Core.Bool.{true, false}
@@ -19,7 +19,7 @@ use Rattle.frames.specs.Taking.{fresh, Standing, Took, takes, gathered}
 use Rattle.frames.specs.Gathering.{gatheredIn, whole-front}
 use Rattle.frames.specs.Streams.{startIn, text-taken, part-taken, stream-passes}
 use Rattle.frames.specs.Spelling.{Framed, sent, framed-text, framed-lines}
-use Rattle.frame_promise.specs.Answers.{Answer, TextAnswer, TextAnswer.badLine, TextAnswer.read, Told, TextTold, AllTold, AllTold.noText, AllTold.nextText, Says, Says.saysBad, Says.saysLong, Says.saysRead, Gives, Gives.silent, Gives.answered, Feeds, Feeding}
+use Rattle.frame_promise.specs.Answers.{Answer, TextAnswer, TextAnswer.badLine, TextAnswer.read, Reply, TextReply, AllReplied, AllReplied.noText, AllReplied.nextText, Says, Says.saysBad, Says.saysLong, Says.saysRead, Gives, Gives.silent, Gives.answered, Feeds, Feeding}
 use Rattle.frame_promise.specs.Cuts.{AllSaid, AllSaid.nothingSaid, AllSaid.nextSaid, fed-room, fed-tells}
 
 -- ---- one call
@@ -38,8 +38,8 @@ before-end : {t : Took} {a : Option Answer} {s : FrameState} → t .ended ≡ fa
 before-end e (silent f) = refl
 before-end e (answered f x) = absurd (clash f e)
 
--- ---- from what is gathered of a text to what is told of it
-record HeldTold (h : Option Held) (t : Told) : Type 0 where
+-- ---- from what is gathered of a text to the reply
+record HeldReply (h : Option Held) (t : Reply) : Type 0 where
   says : Says h (t .answer)
   fronts : (u : List ℕ) → h ≡ some (whole u) → t .front ≡ u
 
@@ -47,10 +47,10 @@ held-says : (t : List ℕ) {o : Answer} (h : Held) → held limit t ≡ h → Sa
 held-says t (whole u) e (saysRead r) = rw (fits-held t e .0) r
 held-says t tooLong e saysLong = Reads.tooLong (long-held t e)
 
-text-told : (ls : List (List ℕ)) {t : Told} → HeldTold (gatheredIn limit (textOf ls)) t → TextTold ls t
-text-told ls {t} x = go (textOf ls) refl x
+text-reply : (ls : List (List ℕ)) {t : Reply} → HeldReply (gatheredIn limit (textOf ls)) t → TextReply ls t
+text-reply ls {t} x = go (textOf ls) refl x
   where
-    go : (p : Option (List ℕ)) → textOf ls ≡ p → HeldTold (gatheredIn limit p) t → TextTold ls t
+    go : (p : Option (List ℕ)) → textOf ls ≡ p → HeldReply (gatheredIn limit p) t → TextReply ls t
     go none e x = record { answers = bad (t .answer) (x .says); fronts = λ u q h. absurd (none-some (sym e ∙ q)) }
       where
         bad : (o : Answer) → Says none o → TextAnswer ls o
@@ -62,17 +62,17 @@ text-told ls {t} x = go (textOf ls) refl x
         }
 
 -- the texts of a stream, one by one
-data AllHeld : List (Option Held) → List Told → Type 0 where
+data AllHeld : List (Option Held) → List Reply → Type 0 where
   noneHeld : AllHeld [] []
-  nextHeld : {h : Option Held} {t : Told} {hs : List (Option Held)} {ts : List Told} → HeldTold h t → AllHeld hs ts → AllHeld (h ∷ hs) (t ∷ ts)
+  nextHeld : {h : Option Held} {t : Reply} {hs : List (Option Held)} {ts : List Reply} → HeldReply h t → AllHeld hs ts → AllHeld (h ∷ hs) (t ∷ ts)
 
-said-held : {gs : List Standing} {ts : List Told} → AllSaid gs ts → AllHeld (map gathered gs) ts
+said-held : {gs : List Standing} {ts : List Reply} → AllSaid gs ts → AllHeld (map gathered gs) ts
 said-held nothingSaid = noneHeld
 said-held (nextSaid {g} x xs) = nextHeld (record { says = x; fronts = whole-front g }) (said-held xs)
 
-all-told : (texts : List (List (List ℕ))) {ts : List Told} → AllHeld (map (λ ls. gatheredIn limit (textOf ls)) texts) ts → AllTold texts ts
-all-told [] noneHeld = noText
-all-told (ls ∷ texts) (nextHeld x xs) = nextText (text-told ls x) (all-told texts xs)
+all-replied : (texts : List (List (List ℕ))) {ts : List Reply} → AllHeld (map (λ ls. gatheredIn limit (textOf ls)) texts) ts → AllReplied texts ts
+all-replied [] noneHeld = noText
+all-replied (ls ∷ texts) (nextHeld x xs) = nextText (text-reply ls x) (all-replied texts xs)
 
 module _ (buffer : List ℕ) where
   -- ---- a call with a text from its start takes it up to its empty line and no byte more, and behind that line nothing has come of the next
@@ -82,12 +82,12 @@ module _ (buffer : List ℕ) where
 
   -- it gives the text's answer, and the text stands at the buffer's front
   pub answers-text : {ls : List (List ℕ)} {s : List ℕ} → Lines ls s → (rest : List ℕ) {used len : ℕ} {answer : Option Answer} {after : Standing}
-      → Feeds (startIn buffer) (s ++ (lineEnd ∷ rest)) used len answer after → (o : Answer) × (answer ≡ some o) × TextTold ls (record { answer = o; front = take len (after .buffer) })
+      → Feeds (startIn buffer) (s ++ (lineEnd ∷ rest)) used len answer after → (o : Answer) × (answer ≡ some o) × TextReply ls (record { answer = o; front = take len (after .buffer) })
   answers-text {ls} {s} lines rest f =
       let t = text-taken buffer lines rest in
       let e = at-end (t .1) (f .gives) in
       let gathers : gathered (takes (startIn buffer) (s ++ (lineEnd ∷ rest)) .at) ≡ gatheredIn limit (textOf ls) = rw (f .room-is) at (t .2) in
-      (e .answer, e .is, text-told ls (rw (f .len-is, f .buffer-is, ← gathers) (record { says = e .says; fronts = whole-front (takes (startIn buffer) (s ++ (lineEnd ∷ rest)) .at) })))
+      (e .answer, e .is, text-reply ls (rw (f .len-is, f .buffer-is, ← gathers) (record { says = e .says; fronts = whole-front (takes (startIn buffer) (s ++ (lineEnd ∷ rest)) .at) })))
 
   -- a call with a text that is not finished takes all of it, and gives no answer
   pub takes-all : {ls : List (List ℕ)} {s : List ℕ} → Lines ls s → (p : List ℕ) → every inLine p ≡ true → {used len : ℕ} {answer : Option Answer} {after : Standing}
@@ -96,39 +96,39 @@ module _ (buffer : List ℕ) where
 
   -- ---- however a stream is fed
   -- every text that an empty line ends has its answer, in turn; one that is not finished has none
-  pub fed-answers : {texts : List (List (List ℕ))} {rest : List (List ℕ)} {p s : List ℕ} {ts : List Told} {end : Standing}
-      → Stream texts rest p s → Feeding (startIn buffer) s ts end → AllTold texts ts
+  pub fed-answers : {texts : List (List (List ℕ))} {rest : List (List ℕ)} {p s : List ℕ} {ts : List Reply} {end : Standing}
+      → Stream texts rest p s → Feeding (startIn buffer) s ts end → AllReplied texts ts
   fed-answers {texts} {ts = ts} stream f =
       let h : AllHeld (map (λ ls. gatheredIn (length buffer) (textOf ls)) texts) ts = rw (stream-passes stream buffer) at (said-held (fed-tells f .0)) in
-      all-told texts (rw (fed-room f) at h)
+      all-replied texts (rw (fed-room f) at h)
 
-  pub unfinished-silent : {ls : List (List ℕ)} {p s : List ℕ} {ts : List Told} {end : Standing} → Stream [] ls p s → Feeding (startIn buffer) s ts end → ts ≡ []
+  pub unfinished-silent : {ls : List (List ℕ)} {p s : List ℕ} {ts : List Reply} {end : Standing} → Stream [] ls p s → Feeding (startIn buffer) s ts end → ts ≡ []
   unfinished-silent stream f = go (fed-answers stream f)
     where
-      go : {ts : List Told} → AllTold [] ts → ts ≡ []
+      go : {ts : List Reply} → AllReplied [] ts → ts ≡ []
       go noText = refl
 
-  -- what is told of one text
-  one-told : {ls : List (List ℕ)} {s : List ℕ} {ts : List Told} {end : Standing} → Lines ls s → Feeding (startIn buffer) (s ++ (lineEnd ∷ [])) ts end → (t : Told) × (ts ≡ t ∷ []) × TextTold ls t
+  -- the reply to one text
+  one-reply : {ls : List (List ℕ)} {s : List ℕ} {ts : List Reply} {end : Standing} → Lines ls s → Feeding (startIn buffer) (s ++ (lineEnd ∷ [])) ts end → (t : Reply) × (ts ≡ t ∷ []) × TextReply ls t
   unfolding every
-  one-told {ls} lines f = go (fed-answers (text lines (unfinished nothing refl)) f)
+  one-reply {ls} lines f = go (fed-answers (text lines (unfinished nothing refl)) f)
     where
-      go : {ts : List Told} → AllTold (ls ∷ []) ts → (t : Told) × (ts ≡ t ∷ []) × TextTold ls t
-      go (nextText {t = t} x noText) = (t, refl, x)
+      go : {ts : List Reply} → AllReplied (ls ∷ []) ts → (t : Reply) × (ts ≡ t ∷ []) × TextReply ls t
+      go (nextText {r = r} x noText) = (r, refl, x)
 
   -- one with a bad line is refused with 8, at its empty line
-  pub bad-refused : {ls : List (List ℕ)} {s : List ℕ} {ts : List Told} {end : Standing} → Lines ls s → textOf ls ≡ none → Feeding (startIn buffer) (s ++ (lineEnd ∷ [])) ts end
-      → (t : Told) × (ts ≡ t ∷ []) × (t .answer ≡ refused 8 0)
-  bad-refused {ls} lines bad f = let o = one-told lines f in (o .0, o .1, go (o .2 .answers))
+  pub bad-refused : {ls : List (List ℕ)} {s : List ℕ} {ts : List Reply} {end : Standing} → Lines ls s → textOf ls ≡ none → Feeding (startIn buffer) (s ++ (lineEnd ∷ [])) ts end
+      → (t : Reply) × (ts ≡ t ∷ []) × (t .answer ≡ refused 8 0)
+  bad-refused {ls} lines bad f = let o = one-reply lines f in (o .0, o .1, go (o .2 .answers))
     where
       go : {a : Answer} → TextAnswer ls a → a ≡ refused 8 0
       go (badLine e) = refl
       go (read e r) = absurd (none-some (sym bad ∙ e))
 
   -- a text that is sent in frames anyhow has one answer, the one that reading it whole gives, and stands at the buffer's front
-  pub framed-anyhow : {ls : List (List ℕ)} {t : List ℕ} {ts : List Told} {end : Standing} → Framed ls t → Feeding (startIn buffer) (sent ls ++ (lineEnd ∷ [])) ts end
-      → (o : Told) × (ts ≡ o ∷ []) × Reads allLetters t (o .answer) × (length t ≤ limit → o .front ≡ t)
-  framed-anyhow {ls} {t} framed f = let o = one-told (framed-lines framed) f in (o .0, o .1, go (o .2 .answers), o .2 .fronts t (framed-text framed))
+  pub framed-anyhow : {ls : List (List ℕ)} {t : List ℕ} {ts : List Reply} {end : Standing} → Framed ls t → Feeding (startIn buffer) (sent ls ++ (lineEnd ∷ [])) ts end
+      → (o : Reply) × (ts ≡ o ∷ []) × Reads allLetters t (o .answer) × (length t ≤ limit → o .front ≡ t)
+  framed-anyhow {ls} {t} framed f = let o = one-reply (framed-lines framed) f in (o .0, o .1, go (o .2 .answers), o .2 .fronts t (framed-text framed))
     where
       go : {a : Answer} → TextAnswer ls a → Reads allLetters t a
       go (badLine e) = absurd (none-some (sym e ∙ framed-text framed))
