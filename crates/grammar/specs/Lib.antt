@@ -17,5 +17,6 @@ pub mod Contents
 pub mod Standing
 pub mod ContentLaw
 pub mod SpanLaw
+pub mod OrderLaw
 pub mod PlaceLaw
 pub mod AsciiLaw
