@@ -4,7 +4,7 @@ use record::WidthAnswer;
 use record::WriteAnswer;
 ghost use Prim.Native.Nat.{_+_, _≤_};
 ghost use lib.ListN.{length};
-ghost use Rattle.promise.specs.Outcome.{writeOutcome, givenLength};
+ghost use Rattle.promise.specs.Outcome.{writeOutcome, outcomeValue};
 
 fn refusal(out: &mut [u8], at: usize, number: u32) -> usize
     ensures { λ r. ⌜ r ≤ length (now (out .entry)) ⌝ }
@@ -15,7 +15,7 @@ fn refusal(out: &mut [u8], at: usize, number: u32) -> usize
 
 // The place behind a text that was written at a place.
 fn written(out: &mut [u8], at: usize, w: WriteAnswer) -> usize
-    requires { ⌜ at + givenLength (writeOutcome w) ≤ length (now out) ⌝ }
+    requires { ⌜ at + outcomeValue (writeOutcome w) ≤ length (now out) ⌝ }
     ensures { λ r. ⌜ r ≤ length (now (out .entry)) ⌝ }
 {
     match w {

@@ -8,10 +8,25 @@ use Rattle.record.specs.declared.WriteAnswer.the-variants as W
 use Rattle.record.specs.declared.WidthAnswer.{WidthAnswer}
 use Rattle.record.specs.declared.WidthAnswer.the-variants as M
 
--- number 0 with what is given; or a refusal's number and place, and no record, length or width
+-- what is given; or a refusal's number and place, and no record, length or width
 pub data Outcome (A : Type 0) : Type 0 where
   given : A → Outcome A
   refused : (number place : ℕ) → Outcome A
+
+-- the number, 0 where it is accepted
+abbrev pub outcomeNumber : {A : Type 0} → Outcome A → ℕ
+outcomeNumber (given a) = 0
+outcomeNumber (refused number place) = number
+
+-- the place; what is accepted has none, and 0 stands for it
+abbrev pub outcomePlace : {A : Type 0} → Outcome A → ℕ
+outcomePlace (given a) = 0
+outcomePlace (refused number place) = place
+
+-- the length or width; 0 where it is refused
+abbrev pub outcomeValue : Outcome ℕ → ℕ
+outcomeValue (given n) = n
+outcomeValue (refused number place) = 0
 
 abbrev pub readOutcome : ReadAnswer → Outcome HgvsVariant
 readOutcome (R.Accepted v) = given v
@@ -25,11 +40,6 @@ writeOutcome W.TooLong = refused 1 0
 writeOutcome W.BadSpan = refused 4 0
 writeOutcome W.NoText = refused 5 0
 writeOutcome W.NoRoom = refused 6 0
-
--- the length that writing gives; 0 where it refuses
-abbrev pub givenLength : Outcome ℕ → ℕ
-givenLength (given n) = n
-givenLength (refused number place) = 0
 
 abbrev pub widthOutcome : WidthAnswer → Outcome ℕ
 widthOutcome (M.Width width) = given width
