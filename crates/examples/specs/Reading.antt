@@ -10,6 +10,7 @@ use lib.IntN.{ℤ, pos, negsuc}
 use lib.ListN.{length, replicate}
 use borrow.Author.Tests.{leb-true, leb-false}
 use Rattle.texts.specs.Ascii.{ascii}
+use Rattle.texts.specs.Tables.{Each, each-so, columns}
 use Rattle.number.specs.Digits.{valFrom}
 use Rattle.number.specs.Reading.{orZero}
 use Rattle.record.specs.declared.Span.{Span}
@@ -42,7 +43,7 @@ use Rattle.grammar.specs.Numbers.{misfit, numbersAt}
 use Rattle.promise.specs.Outcome.{readOutcome, limit}
 use Rattle.promise.specs.Reading.{Reads, Reads.tooLong, Reads.notInGrammar, Reads.doesNotFit, Reads.accepted}
 use Rattle.reader.specs.Unique.{one-answer}
-use Rattle.examples.specs.Tables.{Each, each-so, columns, Row, row}
+use Rattle.examples.specs.Tables.{Row, row}
 use Rattle.na_edits.specs.Alphabet.{alphabets}
 use Rattle.bodies.specs.Trees.{parsed-tree, no-tree}
 use Rattle.examples.specs.Parsing.{parser, computing}

@@ -4,8 +4,8 @@ use mathlib.Core.Path.{_≡_, refl}
 use mathlib.Core.List.{List, [], _∷_, _++_}
 use mathlib.Core.Option.{none}
 use Rattle.texts.specs.Ascii.{ascii}
+use Rattle.texts.specs.Tables.{Each, each-so, columns}
 use Rattle.grammar.specs.Texts.{Text, print, Wf, allLetters}
-use Rattle.examples.specs.Tables.{Each, each-so, columns}
 use Rattle.na_edits.specs.Alphabet.{alphabets}
 use Rattle.bodies.specs.Trees.{no-tree}
 use Rattle.examples.specs.Parsing.{parser, computing}

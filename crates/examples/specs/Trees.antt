@@ -3,11 +3,12 @@ use mathlib.Core.Path.{_≡_, refl}
 use mathlib.Core.List.{List, _++_}
 use mathlib.Core.Option.{some}
 use Rattle.texts.specs.Ascii.{ascii}
+use Rattle.texts.specs.Tables.{Each, each-so, columns}
 use Rattle.record.specs.declared.Kind.the-variants.{Prot}
 use Rattle.grammar.specs.Bodies.{ProteinBody.met1, ProteinBody.bracketedMet1}
 use Rattle.grammar.specs.Texts.{Text, Text.text, allLetters}
 use Rattle.promise.specs.Reading.{TreeOf}
-use Rattle.examples.specs.Tables.{Each, each-so, columns, Row, ab}
+use Rattle.examples.specs.Tables.{Row, ab}
 use Rattle.na_edits.specs.Alphabet.{alphabets}
 use Rattle.bodies.specs.Trees.{parsed-tree}
 use Rattle.examples.specs.Parsing.{parser, computing, only}
