@@ -20,3 +20,5 @@ pub mod SpanLaw
 pub mod OrderLaw
 pub mod PlaceLaw
 pub mod AsciiLaw
+pub mod Examples
+pub mod WellFormed

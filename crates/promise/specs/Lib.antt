@@ -4,3 +4,4 @@ pub mod Writing
 pub mod NoRef
 pub mod Width
 pub mod Unique
+pub mod Examples
