@@ -5,3 +5,5 @@ pub mod BodyLang
 pub mod WholeText
 pub mod Trees
 pub mod Settled
+pub mod Computing
+pub mod Examples

@@ -10,12 +10,8 @@ use lib.IntN.{pos}
 use lib.ListN.{length}
 use borrow.Author.Tests.{leb-true, leb-false}
 use Rattle.texts.specs.Ascii.{ascii}
-use Rattle.texts.specs.Runs.{every, run, front, behind}
-use Rattle.texts.specs.Words.{starts, same}
-use Rattle.alphabet.specs.Letters.{nucleotide, residue, letter, digit, alphanumeric}
-use Rattle.residue.specs.Rows.{rows}
-use Rattle.residue.specs.Reading.{residueLen, threesLen, residuesLen}
-use Rattle.residue.specs.Residues.{oneOf, isThree, isOne, isResidue, threes, isResidues}
+use Rattle.texts.specs.Runs.{every}
+use Rattle.residue.specs.Residues.{isResidue, threes, isResidues}
 use Rattle.number.specs.Digits.{valFrom, decUpTo}
 use Rattle.number.specs.Reading.{orZero}
 use Rattle.record.specs.declared.Kind.{Kind}
@@ -31,22 +27,10 @@ use Rattle.grammar.specs.Numbers.{misfit, numbersAt}
 use Rattle.grammar.specs.Records.{recordAt}
 use Rattle.grammar.specs.Contents.{content}
 use Rattle.grammar.specs.ContentLaw.{content-is}
-use Rattle.lang.specs.Whole.{whole}
-use Rattle.lang.specs.MuLang.{parseMu}
-use Rattle.lang.specs.BothLang.{parseBoth}
-use Rattle.lang.specs.IntervalLang.{parseInterval}
-use Rattle.location.specs.Parse.{onDigits, parseMark, parseOffset, parseBased, parseUnstarred, parseGenomic, parseResidual}
 use Rattle.na_edits.specs.Alphabet.{alphabets}
-use Rattle.na_edits.specs.Choice.{onSome}
-use Rattle.na_edits.specs.Parse.{parseIdent, parseSubst, inserted, afterDelNum, afterDel, afterInv, parseDel, parseIns, parseDup, parseInv, parseNaEdit}
 use Rattle.protein_edits.specs.Canon.{canonTerminal}
-use Rattle.protein_edits.specs.Parse.{bytesOf, terminalAt, lengthAt, stopAt, earlierWith, earlierAt, extEndAt, residuesBehind, insertedAt, wordedAt, parseWith, parse as parseProteinEdit}
-use Rattle.headers.specs.Optionals.{isThere, parseOptional}
-use Rattle.headers.specs.Parse.{parseAccession, parseGene, parseHeader}
-use Rattle.headers.specs.Kinds.{firstKind, parseKind}
 use Rattle.headers.specs.Canonical.{canonHeader}
-use Rattle.bodies.specs.ProteinBodies.{firstExact, parseOpened, parsePlain, parseOrdinary, parseProteinBody}
-use Rattle.bodies.specs.WholeText.{parseText}
+use Rattle.bodies.specs.Computing.{parser, computing}
 use Rattle.bodies.specs.Trees.{parsed-tree, no-tree}
 use Rattle.promise.specs.Outcome.{Outcome.given, Outcome.refused, limit}
 use Rattle.promise.specs.Reading.{Reads, Reads.tooLong, Reads.notInGrammar, Reads.doesNotFit, Reads.accepted}
@@ -112,7 +96,7 @@ onTree none = refusal 2 0
 onTree (some x) = rewritten (misfit (numbersAt 0 x)) (hasLocation (meaning x)) (canonText allLetters alphabets (meaning x))
 
 abbrev answer : List ℕ → Result
-answer t = cond (leb (length t) limit) (onTree (parseText allLetters alphabets t)) (refusal 1 0)
+answer t = cond (leb (length t) limit) (onTree (parser t)) (refusal 1 0)
 
 written-holds : (location : Bool) (t u : List ℕ) → Rewritten location t u → Holds (row t (written location u))
 written-holds true t u r = r
@@ -121,7 +105,7 @@ written-holds false t u r = r
 answer-holds : (t : List ℕ) → Holds (row t (answer t))
 answer-holds t = go (leb (length t) limit) refl
   where
-    fitting : length t ≤ limit → (x : Text) → parseText allLetters alphabets t ≡ some x → (m : Option ℕ) → misfit (numbersAt 0 x) ≡ m → Holds (row t (rewritten m (hasLocation (meaning x)) (canonText allLetters alphabets (meaning x))))
+    fitting : length t ≤ limit → (x : Text) → parser t ≡ some x → (m : Option ℕ) → misfit (numbersAt 0 x) ≡ m → Holds (row t (rewritten m (hasLocation (meaning x)) (canonText allLetters alphabets (meaning x))))
     fitting l x e (some place) f = doesNotFit l x (parsed-tree allLetters alphabets t x e) place f
     fitting l x e none f =
         let s = parsed-tree allLetters alphabets t x e in
@@ -130,12 +114,12 @@ answer-holds t = go (leb (length t) limit) refl
         let v : content t (recordAt 0 x) ≡ meaning x = rw (s .text) at (content-is x) in
         rw (c .found) (written-holds (hasLocation (meaning x)) t (print (c .tree)) (record { back = recordAt 0 x; reads = accepted l x s f; form = ap hasLocation v; shortest = rw v (c .shortest) }))
 
-    tree : length t ≤ limit → (o : Option Text) → parseText allLetters alphabets t ≡ o → Holds (row t (onTree o))
+    tree : length t ≤ limit → (o : Option Text) → parser t ≡ o → Holds (row t (onTree o))
     tree l none e = notInGrammar l (no-tree allLetters alphabets t e)
     tree l (some x) e = fitting l x e (misfit (numbersAt 0 x)) refl
 
-    go : (b : Bool) → leb (length t) limit ≡ b → Holds (row t (cond b (onTree (parseText allLetters alphabets t)) (refusal 1 0)))
-    go true e = tree (leb-true (length t) limit e) (parseText allLetters alphabets t) refl
+    go : (b : Bool) → leb (length t) limit ≡ b → Holds (row t (cond b (onTree (parser t)) (refusal 1 0)))
+    go true e = tree (leb-true (length t) limit e) (parser t) refl
     go false e = tooLong (leb-false (length t) limit e)
 
 abbrev answered : Row → Row
@@ -175,7 +159,7 @@ pairs =
     []
 
 pairs-answered : map answered pairs ≡ pairs
-unfolding every run front behind starts same nucleotide residue letter digit alphanumeric rows residueLen threesLen residuesLen oneOf isThree isOne isResidue threes isResidues valFrom decUpTo orZero whole parseMu parseBoth parseInterval onDigits parseMark parseOffset parseBased parseUnstarred parseGenomic parseResidual onSome parseIdent parseSubst inserted afterDelNum afterDel afterInv parseDel parseIns parseDup parseInv parseNaEdit canonTerminal bytesOf terminalAt lengthAt stopAt earlierWith earlierAt extEndAt residuesBehind insertedAt wordedAt parseWith parseProteinEdit isThere parseOptional parseAccession parseGene parseHeader firstKind parseKind canonHeader firstExact parseOpened parsePlain parseOrdinary parseProteinBody parseText
+unfolding computing every isResidue threes isResidues valFrom decUpTo orZero canonTerminal canonHeader
 pairs-answered = refl
 
 pub pairs-hold : AllHold pairs
@@ -200,7 +184,7 @@ no-texts [] e = tt
 no-texts (v ∷ vs) e = (text-none allLetters alphabets v (cc), no-texts vs (cc))
 
 made-answered : map (canonText allLetters alphabets) madeRecords ≡ map (λ v. none) madeRecords
-unfolding every same starts run front behind nucleotide residue letter digit alphanumeric rows oneOf isThree isOne isResidue decUpTo whole canonTerminal isThere parseOptional parseAccession canonHeader
+unfolding computing every isResidue decUpTo canonTerminal canonHeader
 made-answered = refl
 
 pub made-hold : NoTexts madeRecords

@@ -16,7 +16,7 @@ use Rattle.record.specs.declared.Kind.the-variants.{Cds, Genome, Mt, Tx, Prot, 
 use Rattle.grammar.specs.Header.{printHeader, printKind}
 use Rattle.grammar.specs.Shapes.{Mu.certain, Mu.uncertain, Both.both}
 use Rattle.grammar.specs.ProteinEdits.{ProteinEdit, ProteinEdit.subst, ProteinEdit.substUnknown, ProteinEdit.equal, ProteinEdit.del, ProteinEdit.dup, ProteinEdit.ins, ProteinEdit.delIns, ProteinEdit.fs, ProteinEdit.ext, Stop.stop, ExtEnd.nothing, ExtEnd.later, ExtEnd.earlier, WfProteinEdit}
-use Rattle.grammar.specs.Bodies.{Ends, printEnds, WfEnds, printLocation, NaBody, WfNaBody, ProteinBody, ProteinBody.met1, ProteinBody.bracketedMet1, ProteinBody.noProteinUncertain, ProteinBody.noProtein, ProteinBody.noChangeUncertain, ProteinBody.noChange, ProteinBody.unknown, ProteinBody.change, ProteinBody.bracketed, WfProteinBody, Body, WfBody}
+use Rattle.grammar.specs.Bodies.{Ends, WfEnds, printLocation, NaBody, WfNaBody, ProteinBody, ProteinBody.met1, ProteinBody.bracketedMet1, ProteinBody.noProteinUncertain, ProteinBody.noProtein, ProteinBody.noChangeUncertain, ProteinBody.noChange, ProteinBody.unknown, ProteinBody.change, ProteinBody.bracketed, WfProteinBody, Body, WfBody}
 use Rattle.grammar.specs.Texts.{Text, Text.text, print, Wf}
 use Rattle.grammar.specs.Values.{EndsV, ProteinEditV}
 use Rattle.grammar.specs.Meaning.{meaningEnds, meaningProteinEdit, meaningProteinBody, meaningNaBody, meaningBody, meaning}

@@ -1,5 +1,4 @@
 pub mod Tables
-pub mod Parsing
 pub mod Nucleotides
 pub mod Proteins
 pub mod Trees

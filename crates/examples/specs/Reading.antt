@@ -45,8 +45,8 @@ use Rattle.promise.specs.Reading.{Reads, Reads.tooLong, Reads.notInGrammar, Rea
 use Rattle.reader.specs.Unique.{one-answer}
 use Rattle.examples.specs.Tables.{Row, row}
 use Rattle.na_edits.specs.Alphabet.{alphabets}
+use Rattle.bodies.specs.Computing.{parser, computing}
 use Rattle.bodies.specs.Trees.{parsed-tree, no-tree}
-use Rattle.examples.specs.Parsing.{parser, computing}
 
 -- ---- the one answer to a text, computed
 abbrev onMisfit : Text → Option ℕ → ReadAnswer

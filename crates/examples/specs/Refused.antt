@@ -7,8 +7,8 @@ use Rattle.texts.specs.Ascii.{ascii}
 use Rattle.texts.specs.Tables.{Each, each-so, columns}
 use Rattle.grammar.specs.Texts.{Text, print, Wf, allLetters}
 use Rattle.na_edits.specs.Alphabet.{alphabets}
+use Rattle.bodies.specs.Computing.{parser, computing}
 use Rattle.bodies.specs.Trees.{no-tree}
-use Rattle.examples.specs.Parsing.{parser, computing}
 
 abbrev pub refused : List (List ℕ)
 refused =

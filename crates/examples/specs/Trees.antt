@@ -10,8 +10,8 @@ use Rattle.grammar.specs.Texts.{Text, Text.text, allLetters}
 use Rattle.promise.specs.Reading.{TreeOf}
 use Rattle.examples.specs.Tables.{Row, ab}
 use Rattle.na_edits.specs.Alphabet.{alphabets}
-use Rattle.bodies.specs.Trees.{parsed-tree}
-use Rattle.examples.specs.Parsing.{parser, computing, only}
+use Rattle.bodies.specs.Computing.{parser, computing}
+use Rattle.bodies.specs.Trees.{parsed-tree, tree-parsed}
 use Rattle.examples.specs.Nucleotides.{nucleotides}
 use Rattle.examples.specs.Proteins.{initiations, proteins}
 
@@ -35,7 +35,7 @@ abbrev pub Only : Row Text → Type 0
 Only r = (x : Text) → TreeOf allLetters r.written x → x ≡ r.beside
 
 pub only-trees : Each Only examples
-only-trees = each-so Found Only (λ r e. only r.written r.beside e) examples parses
+only-trees = each-so Found Only (λ r e x h. let f = tree-parsed allLetters alphabets r.written x h in cc) examples parses
 
 -- the exact texts `Met1?` and `(Met1?)` are never read as location and edit
 pub met1-only : (x : Text) → TreeOf allLetters (ascii "AB_12.3:p.Met1?") x → x ≡ text ab Prot met1

@@ -10,3 +10,4 @@ pub mod Canon
 pub mod MuCanon
 pub mod BothCanon
 pub mod IntervalCanon
+pub mod Examples

@@ -6,3 +6,4 @@ pub mod Brackets
 pub mod Canon
 pub mod Canonical
 pub mod Settled
+pub mod Examples

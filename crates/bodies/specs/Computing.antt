@@ -1,8 +1,7 @@
--- The parser with document 01's letters, and what it computes of a text.
+-- The parser with document 01's letters, and what it computes with.
 use Prim.Native.Nat.{ℕ}
-use mathlib.Core.Path.{_≡_}
 use mathlib.Core.List.{List}
-use mathlib.Core.Option.{Option, some}
+use mathlib.Core.Option.{Option}
 use Rattle.texts.specs.Runs.{run, front, behind}
 use Rattle.texts.specs.Words.{starts, same}
 use Rattle.alphabet.specs.Letters.{letter, digit, alphanumeric, nucleotide, residue}
@@ -15,17 +14,15 @@ use Rattle.lang.specs.BothLang.{parseBoth}
 use Rattle.lang.specs.MuLang.{parseMu}
 use Rattle.lang.specs.IntervalLang.{parseInterval}
 use Rattle.location.specs.Parse.{onDigits, parseMark, parseOffset, parseBased, parseUnstarred, parseGenomic, parseResidual}
+use Rattle.na_edits.specs.Alphabet.{alphabets}
 use Rattle.na_edits.specs.Choice.{onSome}
 use Rattle.na_edits.specs.Parse.{parseIdent, parseSubst, inserted, afterDelNum, afterDel, afterInv, parseDel, parseIns, parseDup, parseInv, parseNaEdit}
 use Rattle.protein_edits.specs.Parse.{bytesOf, terminalAt, lengthAt, stopAt, earlierWith, earlierAt, extEndAt, residuesBehind, insertedAt, wordedAt, parseWith, parse}
 use Rattle.headers.specs.Optionals.{isThere, parseOptional}
 use Rattle.headers.specs.Parse.{parseAccession, parseGene, parseHeader}
 use Rattle.headers.specs.Kinds.{firstKind, parseKind}
 use Rattle.bodies.specs.ProteinBodies.{firstExact, parseOpened, parsePlain, parseOrdinary, parseProteinBody}
 use Rattle.bodies.specs.WholeText.{parseText}
-use Rattle.bodies.specs.Trees.{tree-parsed}
-use Rattle.promise.specs.Reading.{TreeOf}
-use Rattle.na_edits.specs.Alphabet.{alphabets}
 
 abbrev pub parser : List ℕ → Option Text
 parser = parseText allLetters alphabets
@@ -34,7 +31,3 @@ parser = parseText allLetters alphabets
 unfoldable pub computing : List ℕ → Option Text
 unfolding run front behind starts same letter digit alphanumeric nucleotide residue rows oneOf isThree isOne residueLen threesLen residuesLen whole parseBoth parseMu parseInterval onDigits parseMark parseOffset parseBased parseUnstarred parseGenomic parseResidual onSome parseIdent parseSubst inserted afterDelNum afterDel afterInv parseDel parseIns parseDup parseInv parseNaEdit bytesOf terminalAt lengthAt stopAt earlierWith earlierAt extEndAt residuesBehind insertedAt wordedAt parseWith parse isThere parseOptional parseAccession parseGene parseHeader firstKind parseKind firstExact parseOpened parsePlain parseOrdinary parseProteinBody parseText
 computing = parser
-
--- what was found is the only tree of the text
-pub only : (t : List ℕ) (x : Text) → parser t ≡ some x → (y : Text) → TreeOf allLetters t y → y ≡ x
-only t x e y h = let f = tree-parsed allLetters alphabets t y h in cc
