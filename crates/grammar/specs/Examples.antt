@@ -41,6 +41,22 @@ residueAt r ds = one (residual (ascii r) (ascii ds))
 abbrev pub arg : ProteinEdit
 arg = subst (ascii "Arg")
 
+abbrev pub intronic : Text
+intronic =
+    text (named none) Cds
+    (both (certain (two (based minus (ascii "7") (ahead (ascii "2"))) (based star (ascii "8") (back (ascii "3"))))) (certain (delNumIns (ascii "12") (ascii "T"))))
+
+abbrev pub inverted : Text
+inverted = text (named (some (ascii "KIT"))) Genome (both (uncertain (one (known (ascii "5")))) (uncertain (invNum (ascii "3"))))
+
+abbrev pub lengthened : Text
+lengthened =
+    text (named none) Prot
+    (bracketed (both (two (residual (ascii "Gly") (ascii "2")) (residual (ascii "Arg") (ascii "7"))) (ext none (earlier (some (ascii "Met")) (ascii "5")))))
+
+abbrev pub shifted : Text
+shifted = text (named none) Prot (change (both (certain (residueAt "Gly" "2")) (certain (fs (some (ascii "Arg")) (some (stop ter (counted (ascii "9"))))))))
+
 -- ---- texts
 abbrev pub prints : List (List ℕ × List ℕ)
 prints =
@@ -92,7 +108,10 @@ prints =
     (printBody Prot B.ProteinBody.unknown, ascii "?") ∷
     (printBody Prot (change (both (uncertain (residueAt "Gly" "2")) (uncertain arg))), ascii "(Gly2)(Arg)") ∷
     (printBody Prot (bracketed (both (residueAt "Gly" "2") arg)), ascii "(Gly2Arg)") ∷
-    (print (text (named none) Genome (both (certain (one (known (ascii "76")))) (certain (del [])))), ascii "AB_12.3:g.76del") ∷
+    (print intronic, ascii "AB_12.3:c.-7+2_*8-3del12insT") ∷
+    (print inverted, ascii "AB_12.3(KIT):g.(5)(inv3)") ∷
+    (print lengthened, ascii "AB_12.3:p.(Gly2_Arg7extMet-5)") ∷
+    (print shifted, ascii "AB_12.3:p.Gly2ArgfsTer9") ∷
     []
 
 pub prints-agree : Each Agree prints
@@ -165,28 +184,20 @@ bodyValues =
 pub body-values-agree : Each Agree bodyValues
 body-values-agree = agreed bodyValues refl
 
--- ---- numbers: AB_12.3:c.-7+2_*8-3del12insT, AB_12.3(KIT):g.(5)(inv3), AB_12.3:p.(Gly2_Arg7extMet-5), AB_12.3:p.Gly2ArgfsTer9, AB_12.3:p.Met1?
+-- ---- numbers
 abbrev pub numbers : List (List Numeral × List Numeral)
-numbers = (
-  numbersAt 0 (text (named none) Cds (both (certain (two (based minus (ascii "7") (ahead (ascii "2"))) (based star (ascii "8") (back (ascii "3"))))) (certain (delNumIns (ascii "12") (ascii "T"))))),
-  numeral 11 Minus (ascii "7") ∷ numeral 13 Plain (ascii "2") ∷ numeral 16 Plain (ascii "8") ∷ numeral 18 Minus (ascii "3") ∷ numeral 22 Plain (ascii "12") ∷ [],
-) ∷ (
-  numbersAt 0 (text (named (some (ascii "KIT"))) Genome (both (uncertain (one (known (ascii "5")))) (uncertain (invNum (ascii "3"))))),
-  numeral 16 Plain (ascii "5") ∷ numeral 22 Plain (ascii "3") ∷ [],
-) ∷ (
-  numbersAt 0 (text (named none) Prot (bracketed (both (two (residual (ascii "Gly") (ascii "2")) (residual (ascii "Arg") (ascii "7"))) (ext none (earlier (some (ascii "Met")) (ascii "5")))))),
-  numeral 14 Plain (ascii "2") ∷ numeral 19 Plain (ascii "7") ∷ numeral 27 Negated (ascii "5") ∷ [],
-) ∷ (
-  numbersAt 0 (text (named none) Prot (change (both (certain (residueAt "Gly" "2")) (certain (fs (some (ascii "Arg")) (some (stop ter (counted (ascii "9"))))))))),
-  numeral 13 Plain (ascii "2") ∷ numeral 22 Plain (ascii "9") ∷ [],
-) ∷
+numbers =
+    (numbersAt 0 intronic, numeral 11 Minus (ascii "7") ∷ numeral 13 Plain (ascii "2") ∷ numeral 16 Plain (ascii "8") ∷ numeral 18 Minus (ascii "3") ∷ numeral 22 Plain (ascii "12") ∷ []) ∷
+    (numbersAt 0 inverted, numeral 16 Plain (ascii "5") ∷ numeral 22 Plain (ascii "3") ∷ []) ∷
+    (numbersAt 0 lengthened, numeral 14 Plain (ascii "2") ∷ numeral 19 Plain (ascii "7") ∷ numeral 27 Negated (ascii "5") ∷ []) ∷
+    (numbersAt 0 shifted, numeral 13 Plain (ascii "2") ∷ numeral 22 Plain (ascii "9") ∷ []) ∷
     (numbersAt 0 (text (named none) Prot met1), []) ∷
     []
 
 pub numbers-agree : Each Agree numbers
 numbers-agree = agreed numbers refl
 
--- AB_12.3:c. .. del, AB_12.3:g. .. del, AB_12.3:p.Gly2extMet- ..
+-- `AB_12.3:c.` .. `del`, `AB_12.3:g.` .. `del`, `AB_12.3:p.Gly2extMet-` ..
 abbrev pub onCds : Based → Text
 onCds p = text (named none) Cds (both (certain (one p)) (certain (del [])))
 
