@@ -16,7 +16,8 @@ use Rattle.promise.specs.Writing.{ToWrite}
 use Rattle.numbered.specs.declared.Answer.{Answer}
 use Rattle.numbered.specs.Answers.{Rewrites}
 use Rattle.lines.specs.Lines.{Held.whole, Held.tooLong}
-use Rattle.line_promise.specs.Answer.{refusal, lineAnswer}
+use Rattle.line_promise.specs.Answer.{refusal}
+use Rattle.line_promise.specs.Computed.{lineAnswer}
 use Rattle.line_promise.specs.Laws.{refused-answer, written-answer}
 
 pub refusal-length : (n place : ℕ) → length (refusal n place) ≡ 2 + (length (dec n) + (1 + length (dec place)))

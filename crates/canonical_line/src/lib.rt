@@ -6,7 +6,8 @@ ghost use Prim.Native.Nat.{_+_, _≤_};
 ghost use lib.ListN.{length};
 ghost use Rattle.lent.specs.Put.{put};
 ghost use Rattle.lines.specs.Lines.{lineEnd, Held.whole, Held.tooLong};
-ghost use Rattle.line_promise.specs.Answer.{refusal, lineAnswer};
+ghost use Rattle.line_promise.specs.Answer.{refusal};
+ghost use Rattle.line_promise.specs.Computed.{lineAnswer};
 
 fn put_refusal(out: &mut [u8], at: usize, number: u32, place: u32) -> usize
     requires { ⌜ at + length (refusal number place) ≤ length (now out) ⌝ }

@@ -1,14 +1,13 @@
 // The line program: standard input to standard output, in large pieces.
 // No contract can speak of what is read or written. So what comes next is decided, by what the last turn has given, in functions whose
 // contracts say all of it (`line_turns`), and `act` makes the calls.
-use libc::STDERR_FILENO;
 use libc::STDIN_FILENO;
 use libc::STDOUT_FILENO;
 use line_runs::Next;
 ghost use Prim.Native.Nat.{_≤_};
 ghost use lib.ListN.{length};
 ghost use Rattle.line_runs.specs.After.{Ready, Acted};
-ghost use Rattle.line_runs.specs.Runs.{Ran};
+ghost use Rattle.line_runs.specs.Runs.{Ran, RanFromZeros};
 
 // One read, one step, one write or the last line's answer, and what comes next.
 fn act(next: Next, input: &mut [u8], buffer: &mut [u8], out: &mut [u8]) -> Next
@@ -38,7 +37,7 @@ fn act(next: Next, input: &mut [u8], buffer: &mut [u8], out: &mut [u8]) -> Next
     }
 }
 
-// In no more turns than any run has; says whether the program has stopped well.
+// Turn by turn until it has stopped: says whether well. No run uses the turns up.
 fn all(input: &mut [u8], buffer: &mut [u8], out: &mut [u8]) -> bool
     requires { ⌜ 4097 ≤ length (now out) ⌝ }
     ensures { λ r. ⌜ Ran (now (buffer .entry)) r (now (input .exit)) (now (buffer .exit)) (now (out .exit)) ⌝ }
@@ -55,12 +54,12 @@ fn all(input: &mut [u8], buffer: &mut [u8], out: &mut [u8]) -> bool
     false
 }
 
-// A program has no exit status to give, so that a fault is told on standard error.
-pub fn run() {
+// Says whether all went well: no read and no write has failed, and every line is answered.
+pub fn run() -> bool
+    ensures { λ r. ⌜ RanFromZeros r ⌝ }
+{
     let mut input = io::large_buffer();
     let mut buffer = [0u8; 4096];
     let mut out = io::large_buffer();
-    if !all(&mut input, &mut buffer, &mut out) {
-        io::write_all(STDERR_FILENO, b"saltwhistle: a read or a write failed\n");
-    }
+    all(&mut input, &mut buffer, &mut out)
 }

@@ -31,7 +31,8 @@ use Rattle.na_edits.specs.Alphabet.{alphabets}
 use Rattle.reader.specs.Unique.{reads-content}
 use Rattle.lines.specs.Lines.{Held, Held.whole, Held.tooLong, held}
 use Rattle.lines.specs.Laws.{held-fits, held-long}
-use Rattle.line_promise.specs.Answer.{refusal, Answers, Answers.text, Answers.number, ofMisfit, ofTree, lineAnswer}
+use Rattle.line_promise.specs.Answer.{refusal, Answers, Answers.text, Answers.number}
+use Rattle.line_promise.specs.Computed.{ofMisfit, ofTree, lineAnswer}
 
 pub refusal-short : (n place : ℕ) → n < 2 ^ 32 → place < 2 ^ 32 → length (refusal n place) ≤ limit
 unfolding refusal

@@ -1,3 +1,4 @@
 pub mod Answer
+pub mod Computed
 pub mod Laws
 pub mod Output

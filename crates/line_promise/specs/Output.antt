@@ -1,4 +1,4 @@
--- Document 01, "Line program": what is written for an input, and that an input cut into pieces anyhow has it written.
+-- What is written for an input, computed: it is what is to be written, and an input cut into pieces anyhow has it written.
 use Prim.Native.Nat.{ℕ, _+_, _≤_}
 use mathlib.Core.Path.{_≡_, refl}
 use mathlib.Core.List.{List, [], _∷_, _++_, flatMap, flatten}
@@ -11,15 +11,11 @@ use Rattle.lines.specs.Taking.{noLine}
 use Rattle.lines.specs.Feeding.{written, Writes}
 use Rattle.lines.specs.Cuts.{writes-some, written-anyhow, writes-anyhow}
 use Rattle.lines.specs.Steps.{roomFor}
-use Rattle.line_promise.specs.Answer.{Answers, lineAnswer}
+use Rattle.line_promise.specs.Answer.{AllAnswered, AllAnswered.nothing, AllAnswered.next}
+use Rattle.line_promise.specs.Computed.{lineAnswer}
 use Rattle.line_promise.specs.Laws.{answers-only, line-answers, answer-short}
 
--- every line in turn, its answer and LF
-pub data AllAnswered : List (List ℕ) → List ℕ → Type 0 where
-  nothing : AllAnswered [] []
-  next : {l a : List ℕ} {ls : List (List ℕ)} {o : List ℕ} → Answers l a → AllAnswered ls o → AllAnswered (l ∷ ls) (a ++ (lineEnd ∷ []) ++ o)
-
--- ---- computed, with a line buffer of 4,096 bytes
+-- with a line buffer of 4,096 bytes
 abbrev pub programOutput : List ℕ → List ℕ
 programOutput input = output lineAnswer limit input
 

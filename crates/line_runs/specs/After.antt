@@ -13,7 +13,7 @@ use Rattle.lines.specs.declared.Line.{Line}
 use Rattle.lines.specs.declared.Progress.{Progress}
 use Rattle.lines.specs.Feeding.{writes, finished, clear}
 use Rattle.lines.specs.Steps.{Stepped}
-use Rattle.line_promise.specs.Answer.{lineAnswer}
+use Rattle.line_promise.specs.Computed.{lineAnswer}
 use Rattle.line_promise.specs.Output.{mostBytes}
 use Rattle.line_runs.specs.declared.Rest.{Rest}
 use Rattle.line_runs.specs.declared.Waiting.{Waiting}

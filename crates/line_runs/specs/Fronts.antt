@@ -8,7 +8,7 @@ use mathlib.Core.List.{List, [], _∷_, _++_, flatten, append-nil, append-assoc}
 use native.Mathlib.Omega.{arith}
 use native.Mathlib.Nat.{zero-min}
 use lib.IntN.{ℤ, pos, negsuc}
-use lib.ListN.{length, take, drop, length-take, take-append-drop, drop-of-length-le}
+use lib.ListN.{length, take, drop, replicate, length-take, length-replicate, take-append-drop, drop-of-length-le}
 use lib.Seq.{append-snoc, drop-drop, take-take, take-at}
 use borrow.Author.Tests.{le-leb}
 use Rattle.io.specs.Counts.{clamped}
@@ -20,14 +20,14 @@ use Rattle.lines.specs.Taking.{noLine}
 use Rattle.lines.specs.Feeding.{stepOn, written, Writes, Writes.ends, Writes.reads, Writes.steps}
 use Rattle.lines.specs.Cuts.{writes-some}
 use Rattle.lines.specs.Steps.{roomFor, Stepped}
-use Rattle.line_promise.specs.Answer.{lineAnswer}
+use Rattle.line_promise.specs.Computed.{lineAnswer}
 use Rattle.line_promise.specs.Output.{programOutput, mostBytes, writes-output}
 use Rattle.line_runs.specs.declared.Rest.{Rest}
 use Rattle.line_runs.specs.declared.Waiting.{Waiting}
 use Rattle.line_runs.specs.declared.Next.{Next}
 use Rattle.line_runs.specs.declared.Next.the-variants.{Read, Step, Write, Finish, WriteLast, Stop}
 use Rattle.line_runs.specs.After.{goOn, goes-on, afterRead, afterStep, afterWrite, pieceOf, leftOf, lastAnswer}
-use Rattle.line_runs.specs.Runs.{Took, Run, Run.begins, Run.reading, Run.stepping, Run.writing, Run.finishing, Run.writingLast}
+use Rattle.line_runs.specs.Runs.{Took, Run, Run.begins, Run.reading, Run.stepping, Run.writing, Run.finishing, Run.writingLast, Ends, Ends.stopped, RanFromZeros}
 
 put-taken : (out t : List ℕ) → take (length t) (put out 0 t) ≡ t
 put-taken out t = rw (put-front out t) (take-at t (drop (length t) out) (length t) refl)
@@ -115,27 +115,35 @@ module _ (buffer₀ : List ℕ) where
     last-owes at true n e f = rw e f
     last-owes at false n h f = (f .0, drop n (take at out), rw (append-assoc taken (take n out) (drop n (take at out)), front-split n at out h) (f .1))
 
-  run-owes : {next : Next} {input buffer out taken : List ℕ} {pieces : List (List ℕ)} → Run buffer₀ next input buffer out pieces taken → Owes next input buffer out pieces taken
+  run-owes : {turns : ℕ} {next : Next} {input buffer out taken : List ℕ} {pieces : List (List ℕ)} → Run buffer₀ turns next input buffer out pieces taken → Owes next input buffer out pieces taken
   unfolding Owes
   run-owes (begins h) = (h, λ more t g. g)
-  run-owes (reading {line} {input} {buffer} {out} {taken} {pieces} x got input′) = let f = run-owes x in read-owes input′ buffer out pieces taken got line (f .0) (f .1)
-  run-owes (stepping {rest} {input} {buffer} {out} {taken} {pieces} x s st) = step-owes input buffer out pieces taken rest s st (run-owes x)
-  run-owes (writing {w} {input} {buffer} {out} {taken} {pieces} x done n e) = write-owes input buffer out pieces taken w done n e (run-owes x)
-  run-owes (finishing {line} {input} {buffer} {out} {taken} {pieces} x) = finish-owes input buffer out pieces taken line (run-owes x)
-  run-owes (writingLast {at} {input} {buffer} {out} {taken} {pieces} x done n e) = last-owes input buffer out pieces taken at done n e (run-owes x)
+  run-owes (reading {turns} {line} {input} {buffer} {out} {taken} {pieces} x got input′) = let f = run-owes x in read-owes input′ buffer out pieces taken got line (f .0) (f .1)
+  run-owes (stepping {turns} {rest} {input} {buffer} {out} {taken} {pieces} x s st) = step-owes input buffer out pieces taken rest s st (run-owes x)
+  run-owes (writing {turns} {w} {input} {buffer} {out} {taken} {pieces} x done n e) = write-owes input buffer out pieces taken w done n e (run-owes x)
+  run-owes (finishing {turns} {line} {input} {buffer} {out} {taken} {pieces} x) = finish-owes input buffer out pieces taken line (run-owes x)
+  run-owes (writingLast {turns} {at} {input} {buffer} {out} {taken} {pieces} x done n e) = last-owes input buffer out pieces taken at done n e (run-owes x)
 
 -- ---- with a line buffer of 4,096 bytes
-module _ (buffer₀ : List ℕ) (holds : length buffer₀ ≡ limit) {input buffer out taken : List ℕ} {pieces : List (List ℕ)} where
-  pub whole-where-well : Run buffer₀ (Stop true) input buffer out pieces taken → taken ≡ programOutput (flatten pieces)
+module _ (buffer₀ : List ℕ) (holds : length buffer₀ ≡ limit) {turns : ℕ} {input buffer out taken : List ℕ} {pieces : List (List ℕ)} where
+  pub whole-where-well : Run buffer₀ turns (Stop true) input buffer out pieces taken → taken ≡ programOutput (flatten pieces)
   unfolding Owes
   whole-where-well x = let f = run-owes buffer₀ x in writes-output (f .0) buffer₀ holds pieces (f .1)
 
-  pub all-before-a-read : {line : Line} → Run buffer₀ (Read line) input buffer out pieces taken → taken ++ lastAnswer buffer line ≡ programOutput (flatten pieces)
+  pub all-before-a-read : {line : Line} → Run buffer₀ turns (Read line) input buffer out pieces taken → taken ++ lastAnswer buffer line ≡ programOutput (flatten pieces)
   unfolding Owes
   all-before-a-read {line} x =
       let f = run-owes buffer₀ x in
       writes-output (length out) buffer₀ holds pieces (rw append-nil at (f .1 [] (lastAnswer buffer line) ends))
 
-  pub front-at-a-fault : Run buffer₀ (Stop false) input buffer out pieces taken → (rest : List ℕ) × (taken ++ rest ≡ programOutput (flatten pieces))
+  pub front-at-a-fault : Run buffer₀ turns (Stop false) input buffer out pieces taken → (rest : List ℕ) × (taken ++ rest ≡ programOutput (flatten pieces))
   unfolding Owes
   front-at-a-fault x = let f = run-owes buffer₀ x in (f .1, writes-output (f .0) buffer₀ holds pieces (f .2))
+
+-- ---- what the program says of its run
+pub whole-where-said : (r : RanFromZeros true) → r .ran .taken ≡ programOutput (flatten (r .ran .pieces))
+whole-where-said r = go (r .ran .run) (r .ran .ends)
+  where
+    go : {turns : ℕ} {next : Next} {pieces : List (List ℕ)} {taken : List ℕ} → Run (replicate limit 0) turns next (r .input) (r .buffer) (r .out) pieces taken → Ends turns next true
+        → taken ≡ programOutput (flatten pieces)
+    go x stopped = whole-where-well (replicate limit 0) (length-replicate {A = ℕ} limit 0) x

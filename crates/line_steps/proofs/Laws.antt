@@ -11,7 +11,7 @@ use Rattle.lines.specs.declared.Line.{Line}
 use Rattle.lines.specs.Lines.{lineEnd}
 use Rattle.lines.specs.Taking.{begun, heldIn, ended, longer, stored}
 use Rattle.lines.specs.Feeding.{finished, clear, writes, said}
-use Rattle.line_promise.specs.Answer.{lineAnswer}
+use Rattle.line_promise.specs.Computed.{lineAnswer}
 use Rattle.line_promise.specs.Output.{mostBytes, ended-short}
 
 module _ (buffer : List ℕ) (line : Line) where

@@ -10,7 +10,7 @@ ghost use Rattle.lines.specs.Lines.{lineEnd};
 ghost use Rattle.lines.specs.Taking.{heldIn, stored};
 ghost use Rattle.lines.specs.Feeding.{writes, finished, clear, said};
 ghost use Rattle.lines.specs.Steps.{wentTo, Stepped};
-ghost use Rattle.line_promise.specs.Answer.{lineAnswer};
+ghost use Rattle.line_promise.specs.Computed.{lineAnswer};
 ghost use Rattle.line_promise.specs.Output.{mostBytes};
 
 // The most bytes of an answer and LF.

@@ -8,7 +8,8 @@ use Rattle.grammar.specs.Texts.{allLetters}
 use Rattle.promise.specs.Outcome.{Outcome.refused}
 use Rattle.promise.specs.Reading.{Reads}
 use Rattle.lines.specs.Lines.{Held.whole}
-use Rattle.line_promise.specs.Answer.{refusal as refusalText, lineAnswer}
+use Rattle.line_promise.specs.Answer.{refusal as refusalText}
+use Rattle.line_promise.specs.Computed.{lineAnswer}
 use Rattle.line_promise.specs.Laws.{answer-short, refusal-short, refused-small}
 use Rattle.canonical_line.proofs.Laws.{long-answer, held-answer, number-answer, text-answer, refusal-answer}
 use borrow.Author.Needs.{needs}

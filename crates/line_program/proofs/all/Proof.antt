@@ -1,13 +1,13 @@
 use mathlib.Core.Path.{_≡_, refl}
 use lib.ListN.{length}
-use Rattle.line_program.proofs.Laws.{Standing, standing-start, standing-more, ran-to-stop, ran-on}
+use Rattle.line_program.proofs.Laws.{Standing, standing-start, standing-more, ran-to-stop, ran-out}
 use borrow.Author.Needs.{needs}
 use Rattle.line_program.proofs.all.Statement.{statement}
 use Rattle.line_program.proofs.all.Tie as tie
 
 abbrev Inv-loop : tie.InvT-loop
 Inv-loop input₀ buffer₀ out₀ next₀ turns₀ input buffer out next turns =
-    Standing buffer₀ next input buffer out × (length input ≡ length input₀) × (length buffer ≡ length buffer₀) × (length out ≡ length out₀)
+    Standing buffer₀ turns next input buffer out × (length input ≡ length input₀) × (length buffer ≡ length buffer₀) × (length out ≡ length out₀)
 
 abbrev μ-loop : tie.MeasureT-loop
 μ-loop input₀ buffer₀ out₀ next₀ turns₀ input buffer out next turns = turns
@@ -47,8 +47,9 @@ loop-less c = search needs
 loop-again : tie.Need-loop-again Inv-loop μ-loop
 loop-again c =
     let t = c .before .before .before .before .before .before in
-    let l = t .before .before .before .before .before .before .loop in
-    (standing-more (l .next) (l .inv .0) (t .act .ensures), search needs, search needs, search needs)
+    let m = t .before .before .before .before in
+    let l = m .before .before .loop in
+    (standing-more (m .before .loop-test .taken) (l .next) (m .match .keys2) (l .inv .0) (t .act .ensures), search needs, search needs, search needs)
 
 same-length-4 : tie.Need-same-length-4 Inv-loop μ-loop
 same-length-4 c = search needs
@@ -60,7 +61,7 @@ same-length-6 : tie.Need-same-length-6 Inv-loop μ-loop
 same-length-6 c = search needs
 
 returns-2 : tie.Need-returns-2 Inv-loop μ-loop
-returns-2 c = ran-on (c .before .loop .inv .0)
+returns-2 c = ran-out (c .before .loop .inv .0) (c .loop-test .left)
 
 pub all-spec : {M : Type 1} → statement M
 all-spec =

@@ -3,7 +3,7 @@ use native.Mathlib.Omega.{arith}
 use lib.ListN.{length, drop}
 use Rattle.texts.specs.Slices.{tail-part}
 use Rattle.lines.specs.Steps.{Standing, standing-start, used-more, standing-more, stepped-all, stepped-full}
-use Rattle.line_promise.specs.Answer.{lineAnswer}
+use Rattle.line_promise.specs.Computed.{lineAnswer}
 use Rattle.line_promise.specs.Output.{mostBytes}
 use Rattle.line_steps.proofs.Laws.{said-short}
 use borrow.Author.Needs.{needs}

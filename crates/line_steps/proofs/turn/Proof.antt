@@ -1,5 +1,5 @@
 use Rattle.lines.specs.Steps.{went-open, went-ended, taken-within}
-use Rattle.line_promise.specs.Answer.{lineAnswer}
+use Rattle.line_promise.specs.Computed.{lineAnswer}
 use borrow.Author.Needs.{needs}
 use borrow.Author.Tests.{not-true, not-false}
 use Rattle.line_steps.proofs.turn.Statement.{statement}
