@@ -27,11 +27,7 @@ pub extern "C" fn saltwhistle_shortest(text: &[u8], output: &mut [u8]) -> Answer
 pub extern "C" fn saltwhistle_noref(text: &[u8], output: &mut [u8]) -> Answer
     ensures { λ r. ⌜ Rewrites (NoRefText allLetters) (now (text .entry)) (now (output .entry)) r (now (output .exit)) ⌝ }
 {
-    let r = reader::read(text);
-    let ReadAnswer::Accepted(v) = r else {
-        return numbered::of_read(r);
-    };
-    numbered::of_write(writer::write_noref(text, v, output))
+    rewriter::noref(text, output)
 }
 
 // How many bases or residues the text's location spans.

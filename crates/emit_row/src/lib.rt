@@ -9,7 +9,7 @@ ghost use lib.ListN.{length};
 ghost use Rattle.lent.specs.Put.{put};
 ghost use Rattle.emit_row.specs.Texts.{rowText};
 
-// An edit, in this order: `A>T` is first, word, last; `del5insT` word, amount, joint, last; `extMet-5` word, second, sign, amount.
+// An edit, in this order: `A>T` is first, word, second; `del5insT` word, amount, joint, last; `extMet-5` word, second, sign, amount.
 pub struct Row {
     pub first: Span,
     pub word: Word,

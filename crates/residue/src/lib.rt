@@ -98,8 +98,9 @@ pub fn residues_at(table: &[u8; 256], s: &[u8]) -> usize
     ensures { λ r. ⌜ r ≡ residuesLen (now (s .entry)) ⌝ }
 {
     let n = threes_at(s);
+    let end = n + alphabet::run_of(table, Class::Residue, &s[n..]);
     if n == 0 {
-        return alphabet::run_of(table, Class::Residue, s);
+        return end;
     }
     n
 }

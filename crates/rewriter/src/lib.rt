@@ -1,4 +1,4 @@
-// Writing the record that a text reads as, in its shortest text.
+// Writing the record that a text reads as: its shortest text, or the text without the reference.
 use numbered::Answer;
 use record::HgvsVariant;
 use record::ReadAnswer;
@@ -10,6 +10,7 @@ ghost use Rattle.bodies.specs.Settled.{isSettled};
 ghost use Rattle.promise.specs.Outcome.{Outcome.given, writeOutcome};
 ghost use Rattle.promise.specs.Reading.{Reads};
 ghost use Rattle.promise.specs.Writing.{Writes, ToWrite};
+ghost use Rattle.promise.specs.NoRef.{NoRefText};
 ghost use Rattle.numbered.specs.Answers.{Rewrites};
 
 // The shortest text of the record v that the text reads as. A settled text is its own, and is copied.
@@ -36,4 +37,15 @@ pub fn shortest(text: &[u8], output: &mut [u8]) -> Answer
         return numbered::of_read(answer);
     };
     numbered::of_write(rewrite(text, v, r.settled, output))
+}
+
+// Any text: it is read, and written without the reference at the front of the output.
+pub fn noref(text: &[u8], output: &mut [u8]) -> Answer
+    ensures { λ r. ⌜ Rewrites (NoRefText allLetters) (now (text .entry)) (now (output .entry)) r (now (output .exit)) ⌝ }
+{
+    let r = reader::read(text);
+    let ReadAnswer::Accepted(v) = r else {
+        return numbered::of_read(r);
+    };
+    numbered::of_write(writer::write_noref(text, v, output))
 }

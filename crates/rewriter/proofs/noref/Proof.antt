@@ -4,8 +4,8 @@ use Rattle.promise.specs.Reading.{Reads}
 use Rattle.numbered.specs.Answers.{Rewrites}
 use Rattle.numbered.specs.Refused.{not-accepted}
 use borrow.Author.Needs.{needs}
-use Rattle.c_boundary.proofs.saltwhistle_noref.Statement.{statement}
-use Rattle.c_boundary.proofs.saltwhistle_noref.Tie as tie
+use Rattle.rewriter.proofs.noref.Statement.{statement}
+use Rattle.rewriter.proofs.noref.Tie as tie
 
 -- the record that was read
 accepted : (c : tie.After-r) → Reads allLetters (c .before .before .before .before .before .args .text .now) (given (c .r .given .0 .0))
@@ -39,8 +39,8 @@ returns-2 c =
     let w = c .before .before .before in
     rw (c .of-write .ensures) (Rewrites.written _ (accepted (w .before .before .before)) _ _ (w .write-noref .ensures))
 
-pub saltwhistle-noref-spec : {M : Type 1} → statement M
-saltwhistle-noref-spec =
+pub noref-spec : {M : Type 1} → statement M
+noref-spec =
     tie.close
     (tie.spec
     read-requires
