@@ -4,21 +4,20 @@ use mathlib.Core.Path.{_≡_, refl, sym, ap, _∙_}
 use mathlib.Core.Bool.{Bool, true, false, cond, _||_}
 use mathlib.Core.List.{List, [], _∷_}
 use native.Mathlib.Omega.{arith}
-use native.Mathlib.Nat.{zero-add}
 use native.Mathlib.Numerals.{add-one}
 use lib.Dec.{eqb}
 use lib.ListN.{length, take, drop, getD, length-drop}
 use lib.Seq.{drop-cons, drop-drop, take-length}
 use borrow.Author.Tests.{eqb-true, eqb-false, ne-eqb}
 use Rattle.texts.specs.Tests.{and-true, never, clash}
-use Rattle.texts.specs.Runs.{run, run-le}
+use Rattle.texts.specs.Runs.{run}
 use Rattle.texts.specs.Words.{starts, same, starts-take, starts-more, starts-differ, starts-end}
 use Rattle.texts.specs.Slices.{tail-part}
 use Rattle.alphabet.specs.Letters.{residue}
 use Rattle.residue.specs.Rows.{rows, firstFrom, rowOf}
 use Rattle.residue.specs.Residues.{oneOf, isThree, isOne}
 use Rattle.residue.specs.Reading.{residueLen, threesLen, residuesLen}
-use Rattle.residue.specs.Laws.{each, three-length, taken-le, threes-le, some-threes, no-threes}
+use Rattle.residue.specs.Laws.{each, three-length, taken-le, some-threes, no-threes}
 use Rattle.residue.specs.declared.RowFound.{RowFound}
 use Rattle.residue.specs.declared.RowFound.the-variants.{Row, Nothing}
 
@@ -134,20 +133,9 @@ module _ (s : List ℕ) (n : ℕ) (e : n ≡ threesLen s) where
   unfolding residuesLen
   len-threes h = rw (← e, ne-eqb n 0 h)
 
-  pub threes-within : n ≤ length s
-  threes-within = rw e (threes-le s)
-
-  -- the residues of one letter behind them
-  module _ (r : ℕ) (q : r ≡ run residue (take (length s - n) (drop n s))) where
-    ones : r ≡ run residue (drop n s)
-    ones = rw tail-part at q
-
-    pub ones-within : n + r ≤ length s
-    ones-within = omega (arith, ones, run-le residue (drop n s), length-drop n s, threes-within)
-
-    pub len-ones : n ≡ 0 → n + r ≡ residuesLen s
-    unfolding residuesLen
-    len-ones z = rw (← e, z) (zero-add r ∙ rw z at ones)
+  pub len-ones : n ≡ 0 → (r : ℕ) → r ≡ run residue s → r ≡ residuesLen s
+  unfolding residuesLen
+  len-ones z r q = rw (← e, z) q
 
 module _ (s : List ℕ) (i : ℕ) (inv : threesLen s ≡ i + threesLen (drop i s)) where
   pub more-threes : isThree (take 3 (drop i s)) ≡ true → threesLen s ≡ i + 3 + threesLen (drop (i + 3) s)

@@ -201,7 +201,7 @@ threes-sound (a ∷ b ∷ c ∷ s) = go (isThree (a ∷ b ∷ c ∷ [])) refl (t
     go true e h = rw (threesLen, e, take-add 3 (threesLen s) (a ∷ b ∷ c ∷ s)) (true-and e h)
     go false e h = rw (threesLen, e)
 
-pub threes-le : (s : List ℕ) → threesLen s ≤ length s
+threes-le : (s : List ℕ) → threesLen s ≤ length s
 unfolding threesLen
 threes-le [] = omega arith
 threes-le (a ∷ []) = omega arith

@@ -97,12 +97,11 @@ pub fn residues_at(table: &[u8; 256], s: &[u8]) -> usize
     requires { ⌜ IsTable (now table) ⌝ }
     ensures { λ r. ⌜ r ≡ residuesLen (now (s .entry)) ⌝ }
 {
-    let n = threes_at(s);
-    let end = n + alphabet::run_of(table, Class::Residue, &s[n..]);
-    if n == 0 {
-        return end;
+    let threes = threes_at(s);
+    if threes == 0 {
+        return alphabet::run_of(table, Class::Residue, s);
     }
-    n
+    threes
 }
 
 // Is the whole text one residue?
