@@ -44,6 +44,9 @@ none-left piece used input h =
 abbrev Goes : ℕ → List ℕ → Line → List (List ℕ) → List ℕ → Type 0
 Goes room = Writes lineAnswer (roomFor mostBytes room)
 
+goes-some : (room : ℕ) → mostBytes ≤ room → (buffer : List ℕ) (line : Line) (pieces : List (List ℕ)) → Goes room buffer line pieces (written lineAnswer buffer line pieces)
+goes-some room h = writes-some lineAnswer (roomFor mostBytes room) (le-leb (0 + mostBytes) room h)
+
 module _ (buffer₀ : List ℕ) where
   -- with what is written for the rest, the bytes that were taken are what is written for all
   abbrev Before : ℕ → List ℕ → Line → (List (List ℕ) → List (List ℕ)) → List (List ℕ) → List ℕ → Type 0
@@ -96,7 +99,7 @@ module _ (buffer₀ : List ℕ) where
     write-owes w false n h f =
         let rest = drop (w .used) (take (w .piece) input) ∷ [] in
         let t = written lineAnswer buffer (w .line) rest in
-        let g = f .1 [] t (writes-some lineAnswer (roomFor mostBytes (length out)) (le-leb (0 + mostBytes) (length out) (f .0)) buffer (w .line) rest) in
+        let g = f .1 [] t (goes-some (length out) (f .0) buffer (w .line) rest) in
         let a = take n out in
         let b = drop n (take (w .at) out) in
         let e : taken ++ take (w .at) out ++ t ≡ taken ++ a ++ (b ++ t) =
@@ -114,6 +117,23 @@ module _ (buffer₀ : List ℕ) where
     unfolding Owes
     last-owes at true n e f = rw e f
     last-owes at false n h f = (f .0, drop n (take at out), rw (append-assoc taken (take n out) (drop n (take at out)), front-split n at out h) (f .1))
+
+    -- whatever comes next, what writes have taken is a front
+    owes-front : (next : Next) → Owes next input buffer out pieces taken → (room : ℕ) × (rest : List ℕ) × Goes room buffer₀ noLine pieces (taken ++ rest)
+    unfolding Owes
+    owes-front (Read line) f = (length out, lastAnswer buffer line, rw append-nil at (f .1 [] (lastAnswer buffer line) ends))
+    owes-front (Step rest) f =
+        let left = leftOf rest input ∷ [] in
+        let t = written lineAnswer buffer (rest .line) left in
+        (length out, t, rw append-nil at (f .1 [] t (goes-some (length out) (f .0) buffer (rest .line) left)))
+    owes-front (Write w) f =
+        let left = drop (w .used) (take (w .piece) input) ∷ [] in
+        let t = written lineAnswer buffer (w .line) left in
+        (length out, take (w .at) out ++ t, rw (append-nil, append-assoc taken (take (w .at) out) t) at (f .1 [] t (goes-some (length out) (f .0) buffer (w .line) left)))
+    owes-front (Finish line) f = (f .0, lastAnswer buffer line, f .1)
+    owes-front (WriteLast at) f = (f .0, take at out, f .1)
+    owes-front (Stop true) f = (f .0, [], rw append-nil (f .1))
+    owes-front (Stop false) f = f
 
   run-owes : {turns : ℕ} {next : Next} {input buffer out taken : List ℕ} {pieces : List (List ℕ)} → Run buffer₀ turns next input buffer out pieces taken → Owes next input buffer out pieces taken
   unfolding Owes
@@ -136,14 +156,22 @@ module _ (buffer₀ : List ℕ) (holds : length buffer₀ ≡ limit) {turns : �
       let f = run-owes buffer₀ x in
       writes-output (length out) buffer₀ holds pieces (rw append-nil at (f .1 [] (lastAnswer buffer line) ends))
 
-  pub front-at-a-fault : Run buffer₀ turns (Stop false) input buffer out pieces taken → (rest : List ℕ) × (taken ++ rest ≡ programOutput (flatten pieces))
-  unfolding Owes
-  front-at-a-fault x = let f = run-owes buffer₀ x in (f .1, writes-output (f .0) buffer₀ holds pieces (f .2))
+  front-anywhere : {next : Next} → Run buffer₀ turns next input buffer out pieces taken → (rest : List ℕ) × (taken ++ rest ≡ programOutput (flatten pieces))
+  front-anywhere {next} x = let f = owes-front buffer₀ input buffer out pieces taken next (run-owes buffer₀ x) in (f .1, writes-output (f .0) buffer₀ holds pieces (f .2))
 
--- ---- what the program says of its run
+  pub front-at-a-fault : Run buffer₀ turns (Stop false) input buffer out pieces taken → (rest : List ℕ) × (taken ++ rest ≡ programOutput (flatten pieces))
+  front-at-a-fault x = front-anywhere x
+
+-- ---- by what the program says of its run
+zeros-hold : length (replicate {A = ℕ} limit 0) ≡ limit
+zeros-hold = length-replicate {A = ℕ} limit 0
+
 pub whole-where-said : (r : RanFromZeros true) → r .ran .taken ≡ programOutput (flatten (r .ran .pieces))
 whole-where-said r = go (r .ran .run) (r .ran .ends)
   where
     go : {turns : ℕ} {next : Next} {pieces : List (List ℕ)} {taken : List ℕ} → Run (replicate limit 0) turns next (r .input) (r .buffer) (r .out) pieces taken → Ends turns next true
         → taken ≡ programOutput (flatten pieces)
-    go x stopped = whole-where-well (replicate limit 0) (length-replicate {A = ℕ} limit 0) x
+    go x stopped = whole-where-well (replicate limit 0) zeros-hold x
+
+pub front-in-any-case : {well : Bool} (r : RanFromZeros well) → (rest : List ℕ) × (r .ran .taken ++ rest ≡ programOutput (flatten (r .ran .pieces)))
+front-in-any-case r = front-anywhere (replicate limit 0) zeros-hold (r .ran .run)
