@@ -1,11 +1,9 @@
 -- Some texts: the protein bodies that the parser finds, and which texts are written as they stand.
-use Prim.Native.Char.{code}
 use Prim.Native.String.{String}
 use mathlib.Core.Path.{refl}
 use mathlib.Core.List.{List, [], _∷_, _++_}
 use mathlib.Core.Option.{Option, none, some}
 use mathlib.Core.Bool.{Bool, true, false}
-use lib.ListN.{replicate}
 use Rattle.texts.specs.Ascii.{ascii}
 use Rattle.texts.specs.Tables.{Each, Agree, agreed}
 use Rattle.number.specs.Digits.{valFrom}
@@ -76,11 +74,14 @@ settled =
     (asItStands "p.Met1?", true) ∷
     (asItStands "p.(Met1?)", false) ∷
     (asItStands "p.Met01?", false) ∷
+    (asItStands "p.0?", true) ∷
+    (asItStands "p.0", true) ∷
+    (asItStands "p.(=)", false) ∷
+    (asItStands "p.=", true) ∷
+    (asItStands "p.?", true) ∷
     (asItStands "p.Gly2(Arg)", true) ∷
     (asItStands "p.(Gly2Arg)", true) ∷
     (asItStands "p.(Gly2)(Arg)", false) ∷
-    (isSettled allLetters alphabets (ascii "AB_12.3:c.1del" ++ replicate 4082 (code "A")), true) ∷
-    (isSettled allLetters alphabets (ascii "AB_12.3:c.1del" ++ replicate 4083 (code "A")), false) ∷
     []
 
 pub settled-agree : Each Agree settled

@@ -5,16 +5,20 @@ use Prim.Native.String.{String}
 use mathlib.Core.Path.{refl}
 use mathlib.Core.List.{List, [], _∷_}
 use mathlib.Core.Option.{Option, none, some}
-use lib.IntN.{pos, negsuc}
+use lib.IntN.{ℤ, pos, negsuc}
 use Rattle.texts.specs.Ascii.{ascii}
 use Rattle.texts.specs.Tables.{Each, Agree, agreed}
 use Rattle.number.specs.declared.Sign.the-variants.{Plain, Minus, Negated}
 use Rattle.number.specs.Digits.{valFrom}
 use Rattle.number.specs.Reading.{orZero}
+use Rattle.record.specs.declared.Kind.{Kind}
 use Rattle.record.specs.declared.Kind.the-variants.{Cds, Genome, Mt, Tx, Prot, Rna}
 use Rattle.record.specs.declared.Offset.the-variants.{Absent, By}
+use Rattle.record.specs.declared.CdsFrom.{CdsFrom}
 use Rattle.record.specs.declared.CdsFrom.the-variants.{Start, End}
 use Rattle.record.specs.declared.CdsPos.{CdsPos}
+use Rattle.record.specs.declared.GenomePos.the-variants as G
+use Rattle.record.specs.declared.MtPos.the-variants as M
 use Rattle.record.specs.declared.UncertainLengthChange.the-variants.{None, Unknown, Known}
 use Rattle.grammar.specs.Header.{Accession.accession, Header, Header.header, printHeader, printKind}
 use Rattle.grammar.specs.Positions.{Mark.bare, Mark.plus, Mark.minus, Mark.star, Offset.absent, Offset.ahead, Offset.back, Based, Based.based, Genomic.known, Genomic.unknown, Residual.residual, printPosition}
@@ -26,8 +30,8 @@ use Rattle.grammar.specs.Bodies.{Ends, ProteinBody.met1, ProteinBody.bra
 use Rattle.grammar.specs.Bodies as B
 use Rattle.grammar.specs.Texts.{Text, Text.text, print}
 use Rattle.grammar.specs.Values as Values
-use Rattle.grammar.specs.Values.{NaEditV, NaEditV.refAlt, NaEditV.numAlt, NaEditV.delRef, NaEditV.insV, NaEditV.dupV, NaEditV.invRef, ProteinEditV, ProteinEditV.fsV, ProteinEditV.extV, ProteinEditV.substV, ProteinEditV.delInsV, ProteinEditV.insPV, ProteinEditV.delV, ProteinEditV.dupPV, ProteinEditV.identV, ProteinBodyV, ProteinBodyV.noChangeV, ProteinBodyV.noChangeUncertainV, ProteinBodyV.noProteinV, ProteinBodyV.noProteinUncertainV, ProteinBodyV.unknownV, ProteinBodyV.initiationUncertain}
-use Rattle.grammar.specs.Meaning.{meaningCds, meaningNaEdit, meaningProteinEdit, meaningProteinBody}
+use Rattle.grammar.specs.Values.{ProtPosV.protPosV, BodyV, HeaderV.headerV, Value, Value.value, NaEditV, NaEditV.refAlt, NaEditV.numAlt, NaEditV.delRef, NaEditV.insV, NaEditV.dupV, NaEditV.invRef, ProteinEditV, ProteinEditV.fsV, ProteinEditV.extV, ProteinEditV.substV, ProteinEditV.delInsV, ProteinEditV.insPV, ProteinEditV.delV, ProteinEditV.dupPV, ProteinEditV.identV, ProteinBodyV, ProteinBodyV.ordinary, ProteinBodyV.noChangeV, ProteinBodyV.noChangeUncertainV, ProteinBodyV.noProteinV, ProteinBodyV.noProteinUncertainV, ProteinBodyV.unknownV, ProteinBodyV.initiationUncertain}
+use Rattle.grammar.specs.Meaning.{meaningCds, meaningNaEdit, meaningProteinEdit, meaningProteinBody, meaning}
 use Rattle.grammar.specs.Numbers.{Numeral, Numeral.numeral, misfit, numbersAt}
 
 -- ---- trees
@@ -48,6 +52,15 @@ intronic =
 
 abbrev pub inverted : Text
 inverted = text (named (some (ascii "KIT"))) Genome (both (uncertain (one (known (ascii "5")))) (uncertain (invNum (ascii "3"))))
+
+abbrev pub mitochondrial : Text
+mitochondrial = text (named none) Mt (both (certain (two (known (ascii "76")) unknown)) (certain (delNum (ascii "12"))))
+
+abbrev pub transcribed : Text
+transcribed = text (named none) Tx (both (uncertain (one (based minus (ascii "7") (ahead (ascii "2"))))) (certain (ins (ascii "AC"))))
+
+abbrev pub doubled : Text
+doubled = text (named none) Rna (both (certain (two (based plus (ascii "8") absent) (based bare (ascii "9") (back (ascii "1"))))) (uncertain (dup [])))
 
 abbrev pub lengthened : Text
 lengthened =
@@ -110,6 +123,9 @@ prints =
     (printBody Prot (bracketed (both (residueAt "Gly" "2") arg)), ascii "(Gly2Arg)") ∷
     (print intronic, ascii "AB_12.3:c.-7+2_*8-3del12insT") ∷
     (print inverted, ascii "AB_12.3(KIT):g.(5)(inv3)") ∷
+    (print mitochondrial, ascii "AB_12.3:m.76_?del12") ∷
+    (print transcribed, ascii "AB_12.3:n.(-7+2)insAC") ∷
+    (print doubled, ascii "AB_12.3:r.+8_9-1(dup)") ∷
     (print lengthened, ascii "AB_12.3:p.(Gly2_Arg7extMet-5)") ∷
     (print shifted, ascii "AB_12.3:p.Gly2ArgfsTer9") ∷
     []
@@ -141,6 +157,7 @@ abbrev pub cdsValues : List (CdsPos × CdsPos)
 cdsValues =
     (meaningCds (based bare (ascii "76") absent), record { base = pos 76; offset = Absent; «cds_from» = Start }) ∷
     (meaningCds (based plus (ascii "76") (ahead (ascii "0"))), record { base = pos 76; offset = By (pos 0); «cds_from» = Start }) ∷
+    (meaningCds (based bare (ascii "76") (ahead (ascii "2"))), record { base = pos 76; offset = By (pos 2); «cds_from» = Start }) ∷
     (meaningCds (based minus (ascii "0") (back (ascii "0"))), record { base = pos 0; offset = By (pos 0); «cds_from» = Start }) ∷
     (meaningCds (based minus (ascii "2147483648") absent), record { base = negsuc 2147483647; offset = Absent; «cds_from» = Start }) ∷
     (meaningCds (based star (ascii "5") (back (ascii "3"))), record { base = pos 5; offset = By (negsuc 2); «cds_from» = End }) ∷
@@ -184,11 +201,35 @@ bodyValues =
 pub body-values-agree : Each Agree bodyValues
 body-values-agree = agreed bodyValues refl
 
+abbrev pub cds : ℤ → ℤ → CdsFrom → CdsPos
+cds n o f = record { base = n; offset = By o; «cds_from» = f }
+
+abbrev pub under : Option (List ℕ) → (k : Kind) → BodyV k → Value
+under gene k b = value (headerV (ascii "AB_12.3") gene) k b
+
+abbrev pub values : List (Value × Value)
+values =
+    (meaning intronic, under none Cds (both (certain (both (cds (negsuc 6) (pos 2) Start) (cds (pos 8) (negsuc 2) End))) (certain (numAlt (pos 12) (ascii "T"))))) ∷
+    (meaning inverted, under (some (ascii "KIT")) Genome (both (uncertain (both (G.At (pos 5)) (G.At (pos 5)))) (uncertain (Values.NaEditV.invNum (pos 3))))) ∷
+    (meaning mitochondrial, under none Mt (both (certain (both (M.At (pos 76)) M.Unknown)) (certain (Values.NaEditV.delNum (pos 12))))) ∷
+    (meaning transcribed, under none Tx (both (uncertain (both (record { base = negsuc 6; offset = By (pos 2) }) (record { base = negsuc 6; offset = By (pos 2) }))) (certain (insV (ascii "AC"))))) ∷
+    (meaning doubled, under none Rna (both (certain (both (record { base = pos 8; offset = Absent }) (record { base = pos 9; offset = By (negsuc 0) }))) (uncertain (dupV [])))) ∷
+    (meaning lengthened, under none Prot (ordinary (both (uncertain (both (protPosV (ascii "Gly") (pos 2)) (protPosV (ascii "Arg") (pos 7)))) (uncertain (extV none (some (ascii "Met")) (Known (negsuc 4))))))) ∷
+    (meaning shifted, under none Prot (ordinary (both (certain (both (protPosV (ascii "Gly") (pos 2)) (protPosV (ascii "Gly") (pos 2)))) (certain (fsV (some (ascii "Arg")) (some (ascii "Ter")) (Known (pos 9))))))) ∷
+    []
+
+pub values-agree : Each Agree values
+unfolding valFrom orZero
+values-agree = agreed values refl
+
 -- ---- numbers
 abbrev pub numbers : List (List Numeral × List Numeral)
 numbers =
     (numbersAt 0 intronic, numeral 11 Minus (ascii "7") ∷ numeral 13 Plain (ascii "2") ∷ numeral 16 Plain (ascii "8") ∷ numeral 18 Minus (ascii "3") ∷ numeral 22 Plain (ascii "12") ∷ []) ∷
     (numbersAt 0 inverted, numeral 16 Plain (ascii "5") ∷ numeral 22 Plain (ascii "3") ∷ []) ∷
+    (numbersAt 0 mitochondrial, numeral 10 Plain (ascii "76") ∷ numeral 17 Plain (ascii "12") ∷ []) ∷
+    (numbersAt 0 transcribed, numeral 12 Minus (ascii "7") ∷ numeral 14 Plain (ascii "2") ∷ []) ∷
+    (numbersAt 0 doubled, numeral 11 Plain (ascii "8") ∷ numeral 13 Plain (ascii "9") ∷ numeral 15 Minus (ascii "1") ∷ []) ∷
     (numbersAt 0 lengthened, numeral 14 Plain (ascii "2") ∷ numeral 19 Plain (ascii "7") ∷ numeral 27 Negated (ascii "5") ∷ []) ∷
     (numbersAt 0 shifted, numeral 13 Plain (ascii "2") ∷ numeral 22 Plain (ascii "9") ∷ []) ∷
     (numbersAt 0 (text (named none) Prot met1), []) ∷

@@ -24,8 +24,9 @@ use Rattle.grammar.specs.Positions.{Mark.bare, Mark.plus, Mark.minus, Ma
 use Rattle.grammar.specs.Shapes.{Interval.one, Mu.certain, Mu.uncertain, Both.both}
 use Rattle.grammar.specs.NucleotideEdits.{NaEdit, NaEdit.equal, NaEdit.swap, NaEdit.delIns, NaEdit.delNumIns, NaEdit.delNum, NaEdit.del, NaEdit.ins, NaEdit.dup, NaEdit.invNum, NaEdit.inv, WfNaEdit}
 use Rattle.grammar.specs.ProteinEdits as P
-use Rattle.grammar.specs.ProteinEdits.{ProteinEdit, ProteinEdit.subst, ProteinEdit.substUnknown, ProteinEdit.fs, ProteinEdit.ext, Terminal.ter, Length.counted, Stop.stop, ExtEnd.earlier, WfProteinEdit}
-use Rattle.grammar.specs.Bodies.{Ends, ProteinBody, ProteinBody.change, ProteinBody.bracketed, WfProteinBody}
+use Rattle.grammar.specs.ProteinEdits.{ProteinEdit, ProteinEdit.subst, ProteinEdit.substUnknown, ProteinEdit.fs, ProteinEdit.ext, Terminal.ter, Terminal.x, Length.counted, Length.unsaid, Stop.stop, ExtEnd.nothing, ExtEnd.later, ExtEnd.earlier, WfProteinEdit}
+use Rattle.grammar.specs.Bodies as B
+use Rattle.grammar.specs.Bodies.{Ends, ProteinBody, ProteinBody.met1, ProteinBody.bracketedMet1, ProteinBody.noProteinUncertain, ProteinBody.noProtein, ProteinBody.noChangeUncertain, ProteinBody.noChange, ProteinBody.change, ProteinBody.bracketed, WfProteinBody}
 
 abbrev pub Not : {A : Type 0} → (A → Type 0) → A → Type 0
 Not P a = P a → ⊥
@@ -96,6 +97,7 @@ positions =
     at Cds (based plus (ascii "76") (ahead (ascii "0"))) ∷
     at Tx (based minus (ascii "7") absent) ∷
     at Rna (based bare (ascii "007") (ahead (ascii "2"))) ∷
+    at Rna (based plus (ascii "8") absent) ∷
     at Genome (known (ascii "0")) ∷
     at Mt unknown ∷
     at Prot (residual (ascii "Gly") (ascii "2")) ∷
@@ -106,7 +108,7 @@ positions =
 pub positions-formed : Each WfPlaced positions
 unfolding every digit residue rows same oneOf isThree isOne isResidue
 positions-formed =
-    ((some-of refl, some-of refl), ((some-of refl, some-of refl), ((tt, (some-of refl, tt)), ((tt, (some-of refl, some-of refl)), (some-of refl, (tt, ((refl, some-of refl), ((refl, some-of refl), ((refl, some-of refl), tt)))))))))
+    ((some-of refl, some-of refl), ((some-of refl, some-of refl), ((tt, (some-of refl, tt)), ((tt, (some-of refl, some-of refl)), ((tt, (some-of refl, tt)), (some-of refl, (tt, ((refl, some-of refl), ((refl, some-of refl), ((refl, some-of refl), tt))))))))))
 
 -- n.*5, r.*5, c.+, c.76-, g. without digits, p.gly2, p.2, p.Gly
 abbrev pub misformedPositions : List Placed
@@ -156,19 +158,33 @@ headers-misformed =
 abbrev pub proteinEdits : List ProteinEdit
 proteinEdits =
     subst (ascii "*") ∷
+    substUnknown ∷
+    P.ProteinEdit.equal ∷
+    P.ProteinEdit.del ∷
+    P.ProteinEdit.dup ∷
     P.ProteinEdit.ins (ascii "ArgGly") ∷
     P.ProteinEdit.delIns (ascii "RG") ∷
-    fs none (some (stop ter (counted (ascii "5")))) ∷
-    ext none (earlier (some (ascii "Met")) (ascii "5")) ∷
+    fs none none ∷
+    fs (some (ascii "Arg")) (some (stop ter (counted (ascii "5")))) ∷
+    fs none (some (stop x unsaid)) ∷
+    ext none nothing ∷
+    ext none (later (stop P.Terminal.star P.Length.unknown)) ∷
+    ext (some (ascii "G")) (earlier (some (ascii "Met")) (ascii "5")) ∷
+    ext none (earlier none (ascii "0")) ∷
     []
 
 pub protein-edits-formed : Each WfProteinEdit proteinEdits
 unfolding every digit residue rows same oneOf isThree isOne isResidue threes isResidues
-protein-edits-formed = (refl, (refl, (refl, ((tt, some-of refl), ((tt, (refl, some-of refl)), tt)))))
+protein-edits-formed =
+    (refl, (tt, (tt, (tt, (tt, (refl, (refl, ((tt, tt), ((refl, some-of refl), ((tt, tt), ((tt, tt), ((tt, tt), ((refl, (refl, some-of refl)), ((tt, (tt, some-of refl)), tt))))))))))))))
 
--- delinsArgG, insGArg, ins, fsTer with a letter for its digits, ext- without digits
+-- delinsArgG, insGArg, ins, fsTer with a letter for its digits, ext- without digits; and residues that are none
 abbrev pub misformedProteinEdits : List ProteinEdit
 misformedProteinEdits =
+    subst (ascii "arg") ∷
+    fs (some (ascii "arg")) none ∷
+    ext (some []) nothing ∷
+    ext none (earlier (some (ascii "5")) (ascii "5")) ∷
     P.ProteinEdit.delIns (ascii "ArgG") ∷
     P.ProteinEdit.ins (ascii "GArg") ∷
     P.ProteinEdit.ins [] ∷
@@ -179,9 +195,15 @@ misformedProteinEdits =
 pub protein-edits-misformed : Each (Not WfProteinEdit) misformedProteinEdits
 unfolding every digit residue rows same oneOf isThree isOne isResidue threes isResidues
 protein-edits-misformed =
-    (λ w. clash w refl, (λ w. clash w refl, (λ w. clash w refl, (λ w. not-some (w .1) refl, (λ w. not-some (w .1 .1) refl, tt)))))
+    (λ w. clash w refl, (λ w. clash (w .0) refl, (λ w. clash (w .0) refl, (λ w. clash (w .1 .0) refl, (λ w. clash w refl, (λ w. clash w refl, (λ w. clash w refl, (λ w. not-some (w .1) refl, (λ w. not-some (w .1 .1) refl, tt)))))))))
 
 -- ---- bodies: Met01? and (Met1)? are location and edit, Met1? and (Met1?) are not
+abbrev pub exactBodies : List ProteinBody
+exactBodies = met1 ∷ bracketedMet1 ∷ noProteinUncertain ∷ noProtein ∷ noChangeUncertain ∷ noChange ∷ B.ProteinBody.unknown ∷ []
+
+pub exact-formed : Each WfProteinBody exactBodies
+exact-formed = (tt, (tt, (tt, (tt, (tt, (tt, (tt, tt)))))))
+
 abbrev pub met : String → Ends Prot
 met ds = one (residual (ascii "Met") (ascii ds))
 

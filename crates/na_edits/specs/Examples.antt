@@ -82,7 +82,13 @@ settled =
     (settledNaEdit (delIns (ascii "A") (ascii "T")), false) ∷
     (settledNaEdit (delIns (ascii "AC") (ascii "AC")), false) ∷
     (settledNaEdit (delIns [] (ascii "T")), true) ∷
+    (settledNaEdit (delNumIns (ascii "12") (ascii "T")), true) ∷
+    (settledNaEdit (delNum (ascii "12")), true) ∷
+    (settledNaEdit (del (ascii "AC")), true) ∷
+    (settledNaEdit (ins (ascii "AC")), true) ∷
     (settledNaEdit (dup (ascii "AC")), true) ∷
+    (settledNaEdit (invNum (ascii "12")), true) ∷
+    (settledNaEdit (inv (ascii "AC")), true) ∷
     []
 
 pub settled-agree : Each Agree settled
