@@ -20,6 +20,7 @@ use Rattle.grammar.specs.ProteinEdits.{printFsEnd, printExtEnd, Stop, ExtEnd, P
 use Rattle.grammar.specs.Records.{span, spanOf, proteinEditAt}
 use Rattle.grammar.specs.Numbers.{proteinEditNumbers}
 use Rattle.scan.specs.Answers.{answered}
+use Rattle.scan.specs.Findings.{merged}
 use Rattle.scan.specs.Faults.{none as noFault, notSettled, settledIf, settled-none}
 use Rattle.scan.specs.declared.Faults.{Faults}
 use Rattle.protein_edits.specs.Parse.{bytesOf, stopAt, extEndAt, residuesBehind, insertedAt, wordedAt, parseWith, parse}
@@ -150,7 +151,7 @@ module _ (k : ℕ) (s : List ℕ) (n : ℕ) (en : n ≡ residueLen s) where
 
     module _ (ne : starts (ascii "=") s ≡ false) where
       pub found-unknown : (p : Span) (f : Faults) → starts (ascii "?") s ≡ true → p ≡ span k 1 → f ≡ notSettled → Found (Subst p) 1 f ≡ proteinEditAnswer k (parse s)
-      unfolding parseWith
+      unfolding parseWith merged
       found-unknown p f h ep ef =
           rw (parse-is, test (ascii "fs") false nf, test (ascii "ext") false nx, ne, h) (found k substUnknown (Subst p) 1 f (ap Subst ep) refl refl ef)
 

@@ -1,5 +1,5 @@
 -- What the answer for a whole text says, and which outcome of reading it is.
-use Prim.Native.Nat.{ℕ, _-_, _≤_, _<_}
+use Prim.Native.Nat.{ℕ, _≤_, _<_}
 use mathlib.Core.Path.{_≡_, sym, _∙_}
 use mathlib.Core.List.{List}
 use mathlib.Core.Option.{some}
@@ -17,9 +17,10 @@ use Rattle.bodies.specs.WholeText.{parseText}
 use Rattle.bodies.specs.Trees.{parsed-tree, no-tree}
 use Rattle.bodies.specs.Settled.{settledText, isSettled, long-unsettled, unparsed-unsettled, parsed-settled}
 use Rattle.promise.specs.Outcome.{limit}
-use Rattle.promise.specs.Reading.{Reads, Reads.tooLong, Reads.notInGrammar, Reads.doesNotFit, Reads.accepted}
+use Rattle.promise.specs.Reading.{Reads, Reads.tooLong, Reads.notInGrammar, Reads.doesNotFit as unfit, Reads.accepted}
 use Rattle.scan.specs.declared.Faults.{Faults}
-use Rattle.scan.specs.Faults.{faults, code-settled, code-fits, code-unfit}
+use Rattle.scan.specs.declared.Verdict.{Verdict}
+use Rattle.scan.specs.Faults.{faults, doesNotFit, verdict, verdict-settled, verdict-fits, verdict-unfit}
 use Rattle.read_text.specs.declared.TextRead.the-variants.{Nothing, Found}
 use Rattle.na_edits.specs.Alphabet.{alphabets}
 use Rattle.read_text.specs.Answer.{textAnswer}
@@ -48,16 +49,19 @@ module _ (s : List ℕ) (short : length s ≤ limit) where
       (λ q z. (notInGrammar short (no-tree allLetters alphabets s q), unparsed-unsettled allLetters alphabets s q))
       (λ x q z. absurd (let y : _≡_ {A = ℕ} 0 1 = cc in omega arith))
 
-  module _ {v : HgvsVariant} {f : Faults} (x : TextTold s v f) where
-    settled-is : isSettled allLetters alphabets s ≡ eqb (f .code) 0
-    settled-is = parsed-settled allLetters alphabets s (x .tree) short (x .parsed) ∙ rw (x .wrong) (sym (code-settled (numbersAt 0 (x .tree)) (settledText (x .tree))))
+  module _ {v : HgvsVariant} {f : Faults} (x : TextTold s v f) (w : Verdict) (e : w ≡ verdict f) where
+    is-said : w ≡ verdict (faults (numbersAt 0 (x .tree)) (settledText (x .tree)))
+    is-said = rw (x .wrong) at e
 
-    pub reads-unfit : 1 < f .code → Tells s (unsettled (R.DoesNotFit (f .code - 2)))
+    settled-is : isSettled allLetters alphabets s ≡ eqb (w .rank) 0
+    settled-is = parsed-settled allLetters alphabets s (x .tree) short (x .parsed) ∙ rw is-said (sym (verdict-settled (numbersAt 0 (x .tree)) (settledText (x .tree))))
+
+    pub reads-unfit : w .rank ≡ doesNotFit → Tells s (unsettled (R.DoesNotFit (w .place)))
     reads-unfit h =
-        let m : misfit (numbersAt 0 (x .tree)) ≡ some (f .code - 2) = rw (x .wrong) (code-unfit (numbersAt 0 (x .tree)) (settledText (x .tree)) (rw (x .wrong) at h)) in
-        (doesNotFit short (x .tree) (parsed-tree allLetters alphabets s (x .tree) (x .parsed)) (f .code - 2) m, sym (settled-is ∙ ne-eqb (f .code) 0 (λ q. omega arith)))
+        let m : misfit (numbersAt 0 (x .tree)) ≡ some (w .place) = rw is-said (verdict-unfit (numbersAt 0 (x .tree)) (settledText (x .tree)) (rw is-said at h)) in
+        (unfit short (x .tree) (parsed-tree allLetters alphabets s (x .tree) (x .parsed)) (w .place) m, sym (settled-is ∙ ne-eqb (w .rank) 0 (λ q. omega arith)))
 
-    pub reads-accepted : f .code ≤ 1 → Tells s (record { answer = R.Accepted v; settled = eqb (f .code) 0 })
+    pub reads-accepted : (w .rank ≡ doesNotFit → ⊥) → Tells s (record { answer = R.Accepted v; settled = eqb (w .rank) 0 })
     reads-accepted h =
-        let m = code-fits (numbersAt 0 (x .tree)) (settledText (x .tree)) (rw (x .wrong) at h) in
+        let m = verdict-fits (numbersAt 0 (x .tree)) (settledText (x .tree)) (rw is-said at h) in
         (rw (x .means) (accepted short (x .tree) (parsed-tree allLetters alphabets s (x .tree) (x .parsed)) m), sym settled-is)

@@ -52,13 +52,14 @@ pub fn reading_of(text: &[u8]) -> Reading
     let TextRead::Found(v, faults) = read_text::hgvs_variant(&table, text) else {
         return not_in_grammar();
     };
-    let code = faults.code;
-    if 1 < code {
-        return does_not_fit(code - 2);
+    let said = scan::verdict_of(faults);
+    let rank = said.rank;
+    if rank == scan::DOES_NOT_FIT {
+        return does_not_fit(said.place);
     }
     Reading {
         answer: ReadAnswer::Accepted(v),
-        settled: code == 0,
+        settled: rank == scan::SETTLED,
     }
 }
 

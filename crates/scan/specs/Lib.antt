@@ -1,3 +1,4 @@
+pub mod Findings
 pub mod Faults
 pub mod Reading
 pub mod Answers

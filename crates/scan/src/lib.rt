@@ -8,11 +8,26 @@ ghost use Rattle.texts.specs.Words.{starts};
 ghost use Rattle.texts.specs.Brackets.{opening as openingOf};
 ghost use Rattle.grammar.specs.Records.{span as spanFrom};
 ghost use Rattle.scan.specs.Closing.{closing as closingOf};
-ghost use Rattle.scan.specs.Faults.{none as noFault, notSettled, ofNumber, first, settledIf};
+ghost use Rattle.scan.specs.Faults.{none as noFault, notSettled, ofNumber, first, settledIf, verdict};
 
-// What is to be said of a part: 0 where its text is settled, which is to say the shortest of its record; 1 where it may not be; and the leftmost place of a number that does not fit, and 2 more. A number is handed on in a register, an enum is not.
+// What can be said of a part, in ranks: of several the highest is told. A part is settled where its text is shown to be the shortest of its record.
+pub const SETTLED: usize = 0;
+
+const NOT_SETTLED: usize = 1;
+
+pub const DOES_NOT_FIT: usize = 2;
+
+const RANKS: usize = 16;
+
+// The rank of what is told of a part, and RANKS times its place. A number is handed on in a register, an enum is not.
 pub struct Faults {
     pub code: usize,
+}
+
+// What a code says. Settled or not, a part has no place: it is 0.
+pub struct Verdict {
+    pub rank: usize,
+    pub place: usize,
 }
 
 // The word is the first bytes of s.
@@ -80,14 +95,14 @@ pub fn span(at: usize, n: usize) -> Span
 pub fn no_faults() -> Faults
     ensures { λ r. ⌜ r ≡ noFault ⌝ }
 {
-    Faults { code: 0 }
+    Faults { code: SETTLED }
 }
 
 // Of a part that may not be settled, with nothing wrong.
 pub fn unsettled() -> Faults
     ensures { λ r. ⌜ r ≡ notSettled ⌝ }
 {
-    Faults { code: 1 }
+    Faults { code: NOT_SETTLED }
 }
 
 // What is wrong with a number whose first digit stands at `at`.
@@ -96,7 +111,9 @@ pub fn faults_of(at: usize, n: Number) -> Faults
     ensures { λ r. ⌜ r ≡ ofNumber (n .fits) (n .plain) at ⌝ }
 {
     if !n.fits {
-        return Faults { code: at + 2 };
+        return Faults {
+            code: at * RANKS + DOES_NOT_FIT,
+        };
     }
     if n.plain {
         return no_faults();
@@ -104,17 +121,14 @@ pub fn faults_of(at: usize, n: Number) -> Faults
     unsettled()
 }
 
-// The faults of two parts, one behind the other.
+// The faults of two parts, one behind the other: the leftmost of the highest rank.
 pub fn leftmost(a: Faults, b: Faults) -> Faults
     ensures { λ r. ⌜ r ≡ first a b ⌝ }
 {
-    if 1 < a.code {
-        return a;
+    if a.code % RANKS < b.code % RANKS {
+        return b;
     }
-    if b.code == 0 {
-        return a;
-    }
-    b
+    a
 }
 
 // The faults of a part that is settled only where a test holds.
@@ -125,4 +139,13 @@ pub fn settled_if(test: bool, a: Faults) -> Faults
         return a;
     }
     leftmost(unsettled(), a)
+}
+
+pub fn verdict_of(f: Faults) -> Verdict
+    ensures { λ r. ⌜ r ≡ verdict f ⌝ }
+{
+    Verdict {
+        rank: f.code % RANKS,
+        place: f.code / RANKS,
+    }
 }

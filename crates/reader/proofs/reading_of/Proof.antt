@@ -34,21 +34,23 @@ returns-2 c =
     let e = c .before in
     rw (c .not-in-grammar .ensures) (reads-nothing _ (e .before .before .before .before .before .if1 .left) (sym (e .enum-told .given .1) ∙ e .before .before .hgvs-variant .ensures))
 
-sub-does-not-fit : tie.Need-sub-does-not-fit
-sub-does-not-fit c = search needs
+verdict-of-requires : tie.Need-verdict-of-requires
+verdict-of-requires c κs = search needs
 
 does-not-fit-requires : tie.Need-does-not-fit-requires
 does-not-fit-requires c κs = search needs
 
 returns-3 : tie.Need-returns-3
 returns-3 c =
-    let v = c .before .before .before in
-    rw (c .does-not-fit .ensures) (reads-unfit _ (v .before .before .before .before .before .if1 .left) (told v) (c .before .if2 .taken))
+    let v = c .before .before .before .before in
+    let said = c .before .before .verdict-of in
+    rw (c .does-not-fit .ensures) (reads-unfit _ (v .before .before .before .before .before .if1 .left) (told v) (said .result) (said .ensures) (c .before .if2 .taken))
 
 returns-4 : tie.Need-returns-4
 returns-4 c =
-    let v = c .before .before in
-    reads-accepted _ (v .before .before .before .before .before .if1 .left) (told v) (c .if2 .left)
+    let v = c .before .before .before in
+    let said = c .before .verdict-of in
+    reads-accepted _ (v .before .before .before .before .before .if1 .left) (told v) (said .result) (said .ensures) (c .if2 .left)
 
 pub reading-of-spec : {M : Type 1} → statement M
 reading-of-spec =
@@ -62,7 +64,7 @@ reading-of-spec =
     enum-told
     not-in-grammar-requires
     returns-2
-    sub-does-not-fit
+    verdict-of-requires
     does-not-fit-requires
     returns-3
     returns-4)
