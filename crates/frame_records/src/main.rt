@@ -29,10 +29,10 @@ fn put_answer(buffer: &[u8], out: &mut [u8], answer: FrameAnswer) -> usize
 {
     match answer {
         FrameAnswer::Unfinished => 0,
-        FrameAnswer::BadLine => room::text(out, 0, b"! 8 0\n"),
+        FrameAnswer::BadLine => compare_room::text(out, 0, b"! 8 0\n"),
         FrameAnswer::Read(r) => {
-            let behind = show::answer(buffer, out, 0, r);
-            room::byte(out, behind, b'\n')
+            let behind = compare_record::put_answer(buffer, out, r);
+            compare_room::byte(out, behind, b'\n')
         }
     }
 }

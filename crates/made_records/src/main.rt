@@ -1,4 +1,5 @@
 // Records that no reader gave: on a line each, behind a TAB each, the shortest text, the text without the reference and the width, or `! ` and the refusal's number.
+use compare_lines::columns;
 use libc::STDOUT_FILENO;
 use record::Body;
 use record::GenomeInterval;
@@ -21,69 +22,119 @@ use record::UncertainLengthChange;
 
 // ---- parts of the source `AB_12.3GlyMetArgA?Ter`
 
-fn span(start: usize, end: usize) -> Span {
-    Span { start, end }
-}
+const ACCESSION: Span = Span { start: 0, end: 7 };
 
-fn nothing() -> Span {
-    span(0, 0)
-}
+const NOTHING: Span = Span { start: 0, end: 0 };
 
-fn gly() -> Span {
-    span(7, 10)
-}
+const GLY: Span = Span { start: 7, end: 10 };
 
-fn met() -> Span {
-    span(10, 13)
-}
+const MET: Span = Span { start: 10, end: 13 };
 
-fn mixed() -> Span {
-    span(13, 17)
-}
+const MIXED: Span = Span { start: 13, end: 17 };
 
-fn letter() -> Span {
-    span(16, 17)
-}
+const LETTER: Span = Span { start: 16, end: 17 };
 
-fn question() -> Span {
-    span(17, 18)
-}
+const QUESTION: Span = Span { start: 17, end: 18 };
 
-fn ter() -> Span {
-    span(18, 21)
-}
+const TER: Span = Span { start: 18, end: 21 };
 
-// ---- records
+const BACKWARDS: Span = Span { start: 17, end: 16 };
 
-fn header() -> Header {
-    Header {
-        accession: span(0, 7),
-        gene_symbol: Part::Absent,
+const OUTSIDE: Span = Span { start: 20, end: 22 };
+
+// ---- records: the first eight of g, the others of p
+
+const NUCLEOTIDES: u8 = 8;
+
+const ALL: u8 = 20;
+
+fn na_edit(i: u8) -> NaEdit {
+    match i {
+        0 => NaEdit::RefAlt(LETTER, NOTHING),
+        1 => NaEdit::RefAlt(LETTER, LETTER),
+        2 => NaEdit::DelNum(-1),
+        3 => NaEdit::NumAlt(3, LETTER),
+        4 => NaEdit::Ins(NOTHING),
+        5 => NaEdit::Dup(GLY),
+        6 => NaEdit::DelRef(BACKWARDS),
+        _ => NaEdit::DelRef(OUTSIDE),
     }
 }
 
-fn genome(edit: NaEdit) -> HgvsVariant {
+fn residue(i: u8) -> ProtPos {
+    match i {
+        8 => ProtPos { aa: MET, number: 1 },
+        9 => ProtPos {
+            aa: GLY,
+            number: -1,
+        },
+        12 => ProtPos {
+            aa: NOTHING,
+            number: 2,
+        },
+        _ => ProtPos { aa: GLY, number: 2 },
+    }
+}
+
+fn extension(i: u8) -> Part {
+    match i {
+        15 => Part::Present(TER),
+        17 | 19 => Part::Absent,
+        18 => Part::Present(NOTHING),
+        _ => Part::Present(MET),
+    }
+}
+
+fn change(i: u8) -> UncertainLengthChange {
+    match i {
+        13 | 17 => UncertainLengthChange::Known(5),
+        14 => UncertainLengthChange::Known(-5),
+        18 => UncertainLengthChange::None,
+        19 => UncertainLengthChange::Known(-2147483648),
+        _ => UncertainLengthChange::Known(0),
+    }
+}
+
+fn protein_edit(i: u8) -> ProteinEdit {
+    match i {
+        8 => ProteinEdit::Subst(QUESTION),
+        9 | 12 => ProteinEdit::Subst(MET),
+        10 => ProteinEdit::Subst(NOTHING),
+        11 => ProteinEdit::Subst(MIXED),
+        _ => ProteinEdit::Ext(Part::Absent, extension(i), change(i)),
+    }
+}
+
+fn genome(edit: NaEdit) -> Body {
     let loc = MuGenomeInterval::Certain(GenomeInterval {
         start: GenomePos::At(5),
         end: GenomePos::At(7),
     });
-    HgvsVariant {
-        header: header(),
-        body: Body::Genome(GenomeLocEdit {
-            loc,
-            edit: MuNaEdit::Uncertain(edit),
-        }),
-    }
+    Body::Genome(GenomeLocEdit {
+        loc,
+        edit: MuNaEdit::Uncertain(edit),
+    })
 }
 
-fn protein(aa: Span, number: i32, edit: ProteinEdit) -> HgvsVariant {
-    let loc = MuProtInterval::Certain(ProtInterval {
-        start: ProtPos { aa, number },
-        end: ProtPos { aa, number },
-    });
+fn protein(at: ProtPos, edit: ProteinEdit) -> Body {
+    let loc = MuProtInterval::Certain(ProtInterval { start: at, end: at });
+    Body::Prot(ProtLocEdit::Ordinary(loc, MuProteinEdit::Certain(edit)))
+}
+
+fn body(i: u8) -> Body {
+    if i < NUCLEOTIDES {
+        return genome(na_edit(i));
+    }
+    protein(residue(i), protein_edit(i))
+}
+
+fn made(i: u8) -> HgvsVariant {
     HgvsVariant {
-        header: header(),
-        body: Body::Prot(ProtLocEdit::Ordinary(loc, MuProteinEdit::Certain(edit))),
+        header: Header {
+            accession: ACCESSION,
+            gene_symbol: Part::Absent,
+        },
+        body: body(i),
     }
 }
 
@@ -91,82 +142,16 @@ fn protein(aa: Span, number: i32, edit: ProteinEdit) -> HgvsVariant {
 
 fn line(source: &[u8], v: HgvsVariant) {
     let mut out = io::large_buffer();
-    let behind = columns::columns(source, &mut out, 0, v);
-    let end = room::byte(&mut out, behind, b'\n');
+    let behind = columns::put_columns(source, &mut out, 0, v);
+    let end = compare_room::byte(&mut out, behind, b'\n');
     io::write_all(STDOUT_FILENO, &out[..end]);
-}
-
-fn na(source: &[u8], edit: NaEdit) {
-    line(source, genome(edit));
-}
-
-fn subst(source: &[u8], aa: Span, number: i32, to: Span) {
-    line(source, protein(aa, number, ProteinEdit::Subst(to)));
-}
-
-fn ext(source: &[u8], end: Part, change: UncertainLengthChange) {
-    line(
-        source,
-        protein(gly(), 2, ProteinEdit::Ext(Part::Absent, end, change)),
-    );
-}
-
-fn nucleotides(source: &[u8]) {
-    na(source, NaEdit::RefAlt(letter(), nothing()));
-    na(source, NaEdit::RefAlt(letter(), letter()));
-    na(source, NaEdit::DelNum(-1));
-    na(source, NaEdit::NumAlt(3, letter()));
-    na(source, NaEdit::Ins(nothing()));
-    na(source, NaEdit::Dup(gly()));
-    na(source, NaEdit::DelRef(span(17, 16)));
-    na(source, NaEdit::DelRef(span(20, 22)));
-}
-
-fn residues(source: &[u8]) {
-    subst(source, met(), 1, question());
-    subst(source, gly(), -1, met());
-    subst(source, gly(), 2, nothing());
-    subst(source, gly(), 2, mixed());
-    subst(source, nothing(), 2, met());
-}
-
-fn extensions(source: &[u8]) {
-    ext(
-        source,
-        Part::Present(met()),
-        UncertainLengthChange::Known(5),
-    );
-    ext(
-        source,
-        Part::Present(met()),
-        UncertainLengthChange::Known(-5),
-    );
-    ext(
-        source,
-        Part::Present(ter()),
-        UncertainLengthChange::Known(0),
-    );
-    ext(
-        source,
-        Part::Present(met()),
-        UncertainLengthChange::Known(0),
-    );
-    ext(source, Part::Absent, UncertainLengthChange::Known(5));
-    ext(
-        source,
-        Part::Present(nothing()),
-        UncertainLengthChange::None,
-    );
-    ext(
-        source,
-        Part::Absent,
-        UncertainLengthChange::Known(-2147483648),
-    );
 }
 
 fn main() {
     let source = b"AB_12.3GlyMetArgA?Ter";
-    nucleotides(source);
-    residues(source);
-    extensions(source);
+    let mut i: u8 = 0;
+    while i < ALL {
+        line(source, made(i));
+        i += 1;
+    }
 }

@@ -7,11 +7,11 @@ use Rattle.made_records.proofs.line.Tie as tie
 large-buffer-requires : tie.Need-large-buffer-requires
 large-buffer-requires c κs = search needs
 
-slice-aggregate-columns : tie.Need-slice-aggregate-columns
-slice-aggregate-columns c = search needs
+slice-aggregate-put-columns : tie.Need-slice-aggregate-put-columns
+slice-aggregate-put-columns c = search needs
 
-columns-requires : tie.Need-columns-requires
-columns-requires c κs = search needs
+put-columns-requires : tie.Need-put-columns-requires
+put-columns-requires c κs = search needs
 
 slice-aggregate-byte : tie.Need-slice-aggregate-byte
 slice-aggregate-byte c = search needs
@@ -36,8 +36,8 @@ line-spec =
     tie.close
     (tie.spec
     large-buffer-requires
-    slice-aggregate-columns
-    columns-requires
+    slice-aggregate-put-columns
+    put-columns-requires
     slice-aggregate-byte
     byte-requires
     array-share-prefix-out
