@@ -76,19 +76,7 @@ fn of_header(kind: Kind, h: Header) -> Fields {
     )
 }
 
-// The word for a body without an edit; an ordinary body has none.
-fn word_of(x: ProtLocEdit) -> usize {
-    match x {
-        ProtLocEdit::Ordinary(_, _) => forms::NONE,
-        ProtLocEdit::NoChange => forms::NO_CHANGE,
-        ProtLocEdit::NoChangeUncertain => forms::NO_CHANGE_UNCERTAIN,
-        ProtLocEdit::NoProtein => forms::NO_PROTEIN,
-        ProtLocEdit::NoProteinUncertain => forms::NO_PROTEIN_UNCERTAIN,
-        ProtLocEdit::Unknown => forms::UNKNOWN,
-        ProtLocEdit::InitiationUncertain => forms::INITIATION_UNCERTAIN,
-    }
-}
-
+// An ordinary body, or a word.
 fn of_protein(header: Fields, x: ProtLocEdit) -> Shown {
     match x {
         ProtLocEdit::Ordinary(l, e) => located(
@@ -97,7 +85,12 @@ fn of_protein(header: Fields, x: ProtLocEdit) -> Shown {
             record_location::of_prot(l),
             edits::of_protein(e),
         ),
-        _ => short(header, word_of(x)),
+        ProtLocEdit::NoChange => short(header, forms::NO_CHANGE),
+        ProtLocEdit::NoChangeUncertain => short(header, forms::NO_CHANGE_UNCERTAIN),
+        ProtLocEdit::NoProtein => short(header, forms::NO_PROTEIN),
+        ProtLocEdit::NoProteinUncertain => short(header, forms::NO_PROTEIN_UNCERTAIN),
+        ProtLocEdit::Unknown => short(header, forms::UNKNOWN),
+        ProtLocEdit::InitiationUncertain => short(header, forms::INITIATION_UNCERTAIN),
     }
 }
 
