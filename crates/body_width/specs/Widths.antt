@@ -21,11 +21,11 @@ use Rattle.record.specs.declared.MuRnaInterval.the-variants as MuRna
 use Rattle.record.specs.declared.MuProtInterval.the-variants as MuProt
 use Rattle.grammar.specs.Records.{MuIntervalR}
 use Rattle.promise.specs.Width.{between, unshifted, anchored, genomeNumber, mtNumber, muCdsWidth, muGenomeWidth, muMtWidth, muTxWidth, muRnaWidth, muProtWidth, protWidth, bodyWidth}
-use Rattle.read_location.specs.declared.Position.{Position}
-use Rattle.read_location.specs.declared.Location.{Location}
-use Rattle.record_location.specs.declared.AnyBody.{AnyBody}
-use Rattle.record_location.specs.declared.AnyBody.the-variants.{Nucleotide, Protein}
-use Rattle.record_location.specs.Locations.{anyPosition, anyLocation, anyBody}
+use Rattle.any_location.specs.declared.Position.{Position}
+use Rattle.any_location.specs.declared.Location.{Location}
+use Rattle.any_location.specs.declared.AnyBody.{AnyBody}
+use Rattle.any_location.specs.declared.AnyBody.the-variants.{Nucleotide, Protein}
+use Rattle.any_location.specs.OfRecord.{anyPosition, anyLocation, anyBody}
 use Rattle.body_width.specs.declared.BodyWidth.{BodyWidth}
 use Rattle.body_width.specs.declared.BodyWidth.the-variants.{NoWidth, Width}
 use Rattle.body_width.specs.declared.EndNumber.{EndNumber}

@@ -1,11 +1,11 @@
 // The width of a record's location: document 01, "Width".
-use read_location::Location;
-use read_location::Position;
+use any_location::AnyBody;
+use any_location::Location;
+use any_location::Position;
 use record::Body;
 use record::CdsFrom;
 use record::Offset;
 use record::ProtLocEdit;
-use record_location::AnyBody;
 ghost use mathlib.Core.Path.{_≡_};
 ghost use Rattle.promise.specs.Width.{widthBetween, between, anchored, protWidth, bodyWidth};
 ghost use Rattle.body_width.specs.Widths.{widthGiven, numberGiven, endNumber, locationWidth};
@@ -88,7 +88,7 @@ fn prot_width(p: ProtLocEdit) -> BodyWidth
     ensures { λ r. ⌜ widthGiven r ≡ protWidth p ⌝ }
 {
     match p {
-        ProtLocEdit::Ordinary(loc, _) => location_width(record_location::of_prot(loc)),
+        ProtLocEdit::Ordinary(loc, _) => location_width(any_location::of_record::of_prot(loc)),
         ProtLocEdit::NoChange => BodyWidth::NoWidth,
         ProtLocEdit::NoChangeUncertain => BodyWidth::NoWidth,
         ProtLocEdit::NoProtein => BodyWidth::NoWidth,
@@ -101,7 +101,7 @@ fn prot_width(p: ProtLocEdit) -> BodyWidth
 pub fn body_width(b: Body) -> BodyWidth
     ensures { λ r. ⌜ widthGiven r ≡ bodyWidth b ⌝ }
 {
-    match record_location::any_body(b) {
+    match any_location::of_record::any_body(b) {
         AnyBody::Nucleotide(_, l, _) => location_width(l),
         AnyBody::Protein(p) => prot_width(p),
     }

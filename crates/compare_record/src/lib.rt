@@ -1,14 +1,14 @@
 // The answer to reading a text as a line: the record in the form that oracle/README.md gives, or `! `, number, a blank, place.
+use any_location::AnyBody;
+use any_location::Location;
 use fields::Fields;
 use numbered::Answer;
-use read_location::Location;
 use record::Body;
 use record::Header;
 use record::HgvsVariant;
 use record::Kind;
 use record::ProtLocEdit;
 use record::ReadAnswer;
-use record_location::AnyBody;
 ghost use Prim.Native.Nat.{_≤_};
 ghost use lib.ListN.{length};
 
@@ -82,7 +82,7 @@ fn of_protein(header: Fields, x: ProtLocEdit) -> Shown {
         ProtLocEdit::Ordinary(l, e) => located(
             header,
             Kind::Prot,
-            record_location::of_prot(l),
+            any_location::of_record::of_prot(l),
             edits::of_protein(e),
         ),
         ProtLocEdit::NoChange => short(header, forms::NO_CHANGE),
@@ -95,7 +95,7 @@ fn of_protein(header: Fields, x: ProtLocEdit) -> Shown {
 }
 
 fn of_body(h: Header, b: Body) -> Shown {
-    match record_location::any_body(b) {
+    match any_location::of_record::any_body(b) {
         AnyBody::Nucleotide(kind, l, e) => located(of_header(kind, h), kind, l, edits::of_na(e)),
         AnyBody::Protein(x) => of_protein(of_header(Kind::Prot, h), x),
     }

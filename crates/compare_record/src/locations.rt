@@ -1,8 +1,8 @@
 // The ends of a location.
-use crate::fields;
+use any_location::Position;
 use crate::fields::Fields;
+use crate::fields;
 use crate::forms;
-use read_location::Position;
 use record::CdsFrom;
 use record::Kind;
 use record::Offset;

@@ -37,7 +37,7 @@ pub fn is_seq1(table: &[u8; 256], source: &[u8], q: Span) -> bool
 pub fn same_parts(source: &[u8], p: Span, q: Span) -> bool
     ensures { λ r. ⌜ r ≡ sameParts (now (source .entry)) p q ⌝ }
 {
-    rows::same_bytes(parts::part_of(source, p), parts::part_of(source, q))
+    words::same_bytes(parts::part_of(source, p), parts::part_of(source, q))
 }
 
 // One byte each.

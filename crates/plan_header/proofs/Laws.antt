@@ -16,7 +16,7 @@ use Rattle.grammar.specs.Header.{Accession, printAccession}
 use Rattle.lang.specs.Whole.{ended, whole}
 use Rattle.headers.specs.Parse.{parseAccession}
 use Rattle.headers.specs.Sound.{accessionLang}
-use Rattle.read_header.specs.Answer.{accessionLength}
+use Rattle.header_lengths.specs.Lengths.{accessionLength}
 use Rattle.plan_header.specs.HeaderText.{isSome, isName}
 
 module _ (s : List ℕ) where

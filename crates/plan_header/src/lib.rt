@@ -19,7 +19,7 @@ fn is_accession(table: &[u8; 256], s: &[u8]) -> bool
     if s.len() == 0 {
         return false;
     }
-    read_header::accession(table, s) == s.len()
+    header_lengths::accession(table, s) == s.len()
 }
 
 // Is the whole text one or more letters or digits?

@@ -15,9 +15,9 @@ use Rattle.record.specs.declared.Offset.the-variants.{Absent, By}
 use Rattle.record.specs.declared.CdsFrom.{CdsFrom}
 use Rattle.record.specs.declared.CdsFrom.the-variants as From
 use Rattle.grammar.specs.Spans.{part}
-use Rattle.read_location.specs.declared.Position.{Position}
-use Rattle.read_location.specs.declared.Location.{Location}
-use Rattle.same_position.specs.Same.{samePosition}
+use Rattle.any_location.specs.declared.Position.{Position}
+use Rattle.any_location.specs.declared.Location.{Location}
+use Rattle.any_location_same.specs.Same.{samePosition}
 use Rattle.emit_piece.specs.Texts.{noSpan}
 use Rattle.emit_place.specs.Texts.{noEnd}
 use Rattle.emit_piece.specs.declared.Mark.{Mark}

@@ -36,11 +36,11 @@ use Rattle.location.specs.Equal.{eqPosition}
 use Rattle.number.specs.Written.{digitsOf, unsignedDigits}
 use Rattle.location.specs.Canon.{canonOffset, marked, canonBased, canonGenomic, canonPosition}
 use Rattle.location.specs.Canonical.{locationCanon}
-use Rattle.read_location.specs.declared.Position.{Position}
-use Rattle.read_location.specs.declared.Location.{Location}
-use Rattle.read_location.specs.Records.{positionFor, muFor, locationFor}
-use Rattle.record_location.specs.Locations.{anyLocation, any-location}
-use Rattle.same_position.specs.Same.{samePosition}
+use Rattle.any_location.specs.declared.Position.{Position}
+use Rattle.any_location.specs.declared.Location.{Location}
+use Rattle.any_location.specs.OfRecord.{anyLocation}
+use Rattle.any_location.specs.ToRecord.{positionFor, muFor, locationFor, any-location}
+use Rattle.any_location_same.specs.Same.{samePosition}
 use Rattle.emit_piece.specs.Texts.{markText, amountText, noSpan}
 use Rattle.emit_place.specs.Texts.{endText, placeText, noEnd}
 use Rattle.emit_piece.specs.Laws.{no-part}

@@ -1,10 +1,10 @@
 // What is to be written for a location of any kind: brackets or none, and one position where both ends are one, else two.
+use any_location::Location;
+use any_location::Position;
 use emit_piece::Amount;
 use emit_piece::Mark;
 use emit_place::End;
 use emit_place::Place;
-use read_location::Location;
-use read_location::Position;
 use record::CdsFrom;
 use record::Kind;
 use record::Offset;
@@ -181,7 +181,7 @@ pub fn plan_location(table: &[u8; 256], source: &[u8], kind: Kind, l: Location) 
     let start = l.start;
     let end = l.end;
     let first = plan_position(table, source, kind, start);
-    if same_position::same_position(source, kind, start, end) {
+    if any_location_same::same_position(source, kind, start, end) {
         return plan_place(l.certain, first, Mark::Nothing, EndPlan::Text(NO_END));
     }
     plan_place(

@@ -7,7 +7,7 @@ use Rattle.record.specs.declared.Kind.{Kind}
 use Rattle.record.specs.declared.NaEdit.{NaEdit}
 use Rattle.record.specs.declared.MuNaEdit.{MuNaEdit}
 use Rattle.record.specs.declared.MuNaEdit.the-variants as MuNa
-use Rattle.read_location.specs.declared.Location.{Location}
+use Rattle.any_location.specs.declared.Location.{Location}
 use Rattle.emit_place.specs.declared.Place.{Place}
 use Rattle.emit_row.specs.declared.Row.{Row}
 use Rattle.rows.specs.declared.RowPlan.{RowPlan}

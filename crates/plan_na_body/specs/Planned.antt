@@ -24,7 +24,7 @@ use Rattle.location.specs.Canonical.{locationCanon}
 use Rattle.na_edits.specs.Alphabet.{nucleotides}
 use Rattle.na_edits.specs.Canon.{canonNaEdit}
 use Rattle.promise.specs.NoRef.{noRefEdit}
-use Rattle.record_location.specs.Locations.{anyLocation}
+use Rattle.any_location.specs.OfRecord.{anyLocation}
 use Rattle.emit_piece.specs.Texts.{markText}
 use Rattle.emit_row.specs.Texts.{rowText}
 use Rattle.emit_place.specs.Texts.{placeText}

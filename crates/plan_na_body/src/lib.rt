@@ -1,7 +1,7 @@
 // What is to be written for a nucleotide body: its location, then its edit, which stands in brackets where it is not certain.
+use any_location::Location;
 use draft::Body;
 use plan_location::PlacePlan;
-use read_location::Location;
 use record::Kind;
 use record::MuNaEdit;
 use record::NaEdit;

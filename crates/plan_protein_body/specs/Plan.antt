@@ -17,9 +17,9 @@ use Rattle.grammar.specs.Spans.{part}
 use Rattle.grammar.specs.Contents.{proteinEditContent}
 use Rattle.location.specs.Equal.{eqℤ}
 use Rattle.canon.specs.ProteinBodyCanon.{isUnknown}
-use Rattle.read_location.specs.declared.Position.{Position}
-use Rattle.read_location.specs.declared.Location.{Location}
-use Rattle.record_location.specs.Locations.{anyLocation}
+use Rattle.any_location.specs.declared.Position.{Position}
+use Rattle.any_location.specs.declared.Location.{Location}
+use Rattle.any_location.specs.OfRecord.{anyLocation}
 use Rattle.emit_place.specs.Texts.{noEnd}
 use Rattle.emit_word.specs.declared.Word.{Word}
 use Rattle.emit_word.specs.declared.Word.the-variants.{Equal, Question, Met1, NoProtein, NoProteinUncertain, NoChangeUncertain}

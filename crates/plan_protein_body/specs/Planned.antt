@@ -26,9 +26,9 @@ use Rattle.lang.specs.Canon.{mapO, bothO}
 use Rattle.location.specs.Canonical.{endsCanon}
 use Rattle.protein_edits.specs.Canonical.{proteinEditCanon}
 use Rattle.canon.specs.ProteinBodyCanon.{barred, isMet1, inner, joined, met01, canonOrdinary, canonProteinBody}
-use Rattle.read_location.specs.declared.Position.{Position}
-use Rattle.read_location.specs.declared.Location.{Location}
-use Rattle.record_location.specs.Locations.{anyLocation}
+use Rattle.any_location.specs.declared.Position.{Position}
+use Rattle.any_location.specs.declared.Location.{Location}
+use Rattle.any_location.specs.OfRecord.{anyLocation}
 use Rattle.emit_piece.specs.Texts.{markText}
 use Rattle.emit_place.specs.Texts.{endText, placeText}
 use Rattle.emit_row.specs.Texts.{rowText}
@@ -45,7 +45,7 @@ use Rattle.rows.specs.Laws.{word-alone}
 use Rattle.rows.specs.declared.RowPlan.{RowPlan}
 use Rattle.rows.specs.declared.RowPlan.the-variants as Rows
 use Rattle.draft.specs.Texts.{bodyText}
-use Rattle.same_position.specs.Same.{samePosition}
+use Rattle.any_location_same.specs.Same.{samePosition}
 use Rattle.plan_location.specs.declared.EndPlan.{EndPlan}
 use Rattle.plan_location.specs.declared.EndPlan.the-variants as EndPlans
 use Rattle.plan_location.specs.declared.PlacePlan.{PlacePlan}

@@ -1,4 +1,6 @@
 // What is to be written for a protein body: location and edit, in one pair of brackets where both are uncertain; or a word alone.
+use any_location::Location;
+use any_location::Position;
 use draft::Body;
 use emit_piece::Amount;
 use emit_piece::Mark;
@@ -8,8 +10,6 @@ use emit_row::Row;
 use emit_word::Word;
 use plan_location::PlacePlan;
 use plan_na_body::BodyPlan;
-use read_location::Location;
-use read_location::Position;
 use record::Kind;
 use record::MuProteinEdit;
 use record::ProtLocEdit;
@@ -29,7 +29,7 @@ ghost use Rattle.plan_protein_body.specs.Plan.{isMetOne, isUnknownEdit, 
 fn spells(source: &[u8], p: Span, word: &[u8]) -> bool
     ensures { λ r. ⌜ r ≡ same (part (now (source .entry)) p) (now (word .entry)) ⌝ }
 {
-    rows::same_bytes(parts::part_of(source, p), word)
+    words::same_bytes(parts::part_of(source, p), word)
 }
 
 fn is_met_one(source: &[u8], p: Position) -> bool
@@ -37,7 +37,7 @@ fn is_met_one(source: &[u8], p: Position) -> bool
 {
     let aa = p.aa;
     if spells(source, aa, b"Met") {
-        return same_position::same_number(p.number, 1);
+        return any_location_same::same_number(p.number, 1);
     }
     false
 }
@@ -211,7 +211,7 @@ pub fn plan_protein_body(table: &[u8; 256], source: &[u8], b: ProtLocEdit) -> Bo
     ensures { λ r. ⌜ r ≡ planProteinBody (now (source .entry)) b ⌝ }
 {
     match b {
-        ProtLocEdit::Ordinary(l, e) => plan_mu(table, source, record_location::of_prot(l), e),
+        ProtLocEdit::Ordinary(l, e) => plan_mu(table, source, any_location::of_record::of_prot(l), e),
         ProtLocEdit::NoChange => word_body(Word::Equal),
         ProtLocEdit::NoChangeUncertain => word_body(Word::NoChangeUncertain),
         ProtLocEdit::NoProtein => word_body(Word::NoProtein),

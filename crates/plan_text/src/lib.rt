@@ -1,4 +1,5 @@
 // What is to be written for a whole record, where it has a text: header, kind and body.
+use any_location::AnyBody;
 use draft::Draft;
 use draft::Heading;
 use emit_piece::Mark;
@@ -8,7 +9,6 @@ use record::Header;
 use record::HgvsVariant;
 use record::Kind;
 use record::Part;
-use record_location::AnyBody;
 ghost use mathlib.Core.Path.{_≡_};
 ghost use Rattle.alphabet.specs.Cells.{IsTable};
 ghost use Rattle.plan_text.specs.Plan.{kindOf, planBody, headingOf, draftedPlan, textPlan};
@@ -60,7 +60,7 @@ fn plan_body(table: &[u8; 256], source: &[u8], shortest: bool, b: Body) -> BodyP
     requires { ⌜ IsTable (now table) ⌝ }
     ensures { λ r. ⌜ r ≡ planBody (now (source .entry)) shortest b ⌝ }
 {
-    match record_location::any_body(b) {
+    match any_location::of_record::any_body(b) {
         AnyBody::Nucleotide(kind, l, edit) => {
             plan_na_body::plan_na_body(table, source, shortest, kind, l, edit)
         }

@@ -18,13 +18,13 @@ pub fn is_negated(n: i32) -> bool
 pub fn is_terminal(w: &[u8]) -> bool
     ensures { λ r. ⌜ r ≡ isTerminal (now (w .entry)) ⌝ }
 {
-    if rows::same_bytes(w, b"Ter") {
+    if words::same_bytes(w, b"Ter") {
         return true;
     }
-    if rows::same_bytes(w, b"X") {
+    if words::same_bytes(w, b"X") {
         return true;
     }
-    rows::same_bytes(w, b"*")
+    words::same_bytes(w, b"*")
 }
 
 // A residue, or none.
@@ -47,5 +47,5 @@ pub fn is_subst(table: &[u8; 256], source: &[u8], p: Span) -> bool
     if residue::is_residue(table, bytes) {
         return true;
     }
-    rows::same_bytes(bytes, b"?")
+    words::same_bytes(bytes, b"?")
 }

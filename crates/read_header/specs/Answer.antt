@@ -4,23 +4,14 @@ use mathlib.Core.List.{List}
 use mathlib.Core.Option.{Option, none, some}
 use lib.ListN.{length}
 use Rattle.record.specs.declared.Kind.{Kind}
-use Rattle.grammar.specs.Optional.{printOptional}
-use Rattle.grammar.specs.Header.{Accession, printAccession, Header, printHeader}
+use Rattle.grammar.specs.Header.{Header, printHeader}
 use Rattle.grammar.specs.Records.{headerAt}
 use Rattle.read_header.specs.declared.HeaderRead.{HeaderRead}
 use Rattle.read_header.specs.declared.HeaderRead.the-variants.{Nothing, Found}
 use Rattle.read_header.specs.declared.KindRead.{KindRead}
 use Rattle.read_header.specs.declared.KindRead.the-variants as KindFound
 
--- how many bytes were found; 0 where nothing was
-abbrev pub optionalLength : List ℕ → Option (List ℕ) → ℕ
-optionalLength word o = length (printOptional word o)
-
-abbrev pub accessionLength : Option Accession → ℕ
-accessionLength none = 0
-accessionLength (some a) = length (printAccession a)
-
--- without its brackets
+-- how many bytes it has without its brackets; 0 where there is none
 abbrev pub geneLength : Option (List ℕ) → ℕ
 geneLength none = 0
 geneLength (some gene) = length gene

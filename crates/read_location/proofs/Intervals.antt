@@ -32,11 +32,12 @@ use Rattle.location.specs.Parse.{parsePosition}
 use Rattle.location.specs.Languages.{posLang, endsLang}
 use Rattle.location.specs.Equal.{eqℤ, machine-equal}
 use Rattle.location.specs.Settled.{settledPosition, numberIn}
-use Rattle.read_location.specs.declared.Position.{Position}
+use Rattle.any_location.specs.declared.Position.{Position}
 use Rattle.read_location.specs.declared.PositionRead.the-variants as PR
 use Rattle.read_location.specs.declared.LocationRead.the-variants.{Nothing, Found}
 use Rattle.read_location.specs.Told.{PositionTold, position-unread}
-use Rattle.read_location.specs.Answer.{positionOf, positionAnswer, intervalOf, intervalAnswer}
+use Rattle.any_location.specs.OfTree.{positionOf, intervalOf}
+use Rattle.read_location.specs.Answer.{positionAnswer, intervalAnswer}
 
 number-in : (k : Kind) (at : ℕ) (t : Tree.Position k) → positionOf k at t .number ≡ numberIn k t
 number-in Cds at (based m ds o) = refl

@@ -39,12 +39,13 @@ use Rattle.scan.specs.Faults.{faults, none as noFault, ofNumber, first, settled
 use Rattle.location.specs.Parse.{onDigits, parseMark, parseOffset, parseBased, parseGenomic, parseResidual}
 use Rattle.location.specs.Sound.{digits-none, digits-some, mark-split, offset-sound}
 use Rattle.location.specs.Settled.{plainMark}
-use Rattle.read_location.specs.declared.Position.{Position}
+use Rattle.any_location.specs.declared.Position.{Position}
 use Rattle.read_location.specs.declared.PositionRead.the-variants.{Nothing, Found}
 use Rattle.read_location.specs.declared.Mark.{Mark}
 use Rattle.read_location.specs.declared.OffsetRead.{OffsetRead}
 use Rattle.read_location.specs.Forms.{isBarred, parseBasedFor}
-use Rattle.read_location.specs.Answer.{plainOf, basedOf, positionAnswer, markOf, offsetAnswer, offsetBehind}
+use Rattle.any_location.specs.OfTree.{plainOf, basedOf}
+use Rattle.read_location.specs.Answer.{positionAnswer, markOf, offsetAnswer, offsetBehind}
 
 -- ---- marks
 module _ (s : List ℕ) where

@@ -1,4 +1,3 @@
 pub mod Answer
 pub mod Forms
 pub mod Told
-pub mod Records

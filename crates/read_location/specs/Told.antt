@@ -3,12 +3,10 @@ use Prim.Native.Nat.{ℕ, _+_, _≤_}
 use mathlib.Core.Path.{_≡_, refl}
 use mathlib.Core.List.{List}
 use mathlib.Core.Option.{none}
-use mathlib.Core.Bool.{true, false}
+use mathlib.Core.Bool.{true}
 use native.Mathlib.Omega.{arith}
 use lib.ListN.{length}
 use Rattle.record.specs.declared.Kind.{Kind}
-use Rattle.grammar.specs.Shapes.{Interval.one, Interval.two}
-use Rattle.grammar.specs.Bodies.{Ends}
 use Rattle.grammar.specs.Numbers.{endsNumbers}
 use Rattle.lang.specs.Lang.{within}
 use Rattle.scan.specs.declared.Faults.{Faults}
@@ -17,21 +15,18 @@ use Rattle.scan.specs.MuAnswers.{Bracketed}
 use Rattle.location.specs.Settled.{settledEnds}
 use Rattle.location.specs.Parse.{parsePosition}
 use Rattle.location.specs.Languages.{endsLang, locationLang}
-use Rattle.read_location.specs.declared.Position.{Position}
+use Rattle.any_location.specs.declared.Position.{Position}
 use Rattle.read_location.specs.declared.PositionRead.the-variants as PR
-use Rattle.read_location.specs.declared.Location.{Location}
+use Rattle.any_location.specs.declared.Location.{Location}
+use Rattle.any_location.specs.OfTree.{intervalOf, locationOf, uncertainOf, uncertain-is}
 use Rattle.read_location.specs.declared.LocationRead.the-variants.{Nothing, Found}
-use Rattle.read_location.specs.Answer.{positions, positionAnswer, intervalOf, intervals, intervalAnswer, locationOf, uncertainOf, locations, locationAnswer}
+use Rattle.read_location.specs.Answer.{positions, positionAnswer, intervals, intervalAnswer, locations, locationAnswer}
 
 pub position-cases : Cases PR.Nothing PR.Found
 position-cases = record { apart = λ e. let y : _≡_ {A = ℕ} 0 1 = cc in omega arith; same = λ e. (cc, cc, cc) }
 
 pub location-cases : Cases Nothing Found
 location-cases = record { apart = λ e. let y : _≡_ {A = ℕ} 0 1 = cc in omega arith; same = λ e. (cc, cc, cc) }
-
-pub uncertain-is : (k : Kind) (at : ℕ) (i : Ends k) → uncertainOf (intervalOf k true at i) ≡ intervalOf k false at i
-uncertain-is k at (one p) = refl
-uncertain-is k at (two p q) = refl
 
 abbrev pub bracketed : (k : Kind) → Bracketed (endsLang k)
 bracketed k =

@@ -1,4 +1,6 @@
 // Reading positions, intervals and locations at the front of a text.
+use any_location::Location;
+use any_location::Position;
 use number::Sign;
 use record::CdsFrom;
 use record::Kind;
@@ -15,28 +17,12 @@ ghost use Rattle.grammar.specs.Positions.{Offset.absent};
 ghost use Rattle.location.specs.Parse.{parseMark, parseOffset, parseBased, parseGenomic, parseResidual, parsePosition};
 ghost use Rattle.location.specs.Languages.{endsLang, locationLang};
 ghost use Rattle.read_location.specs.Forms.{isStarred, isBarred, parseBasedFor, formOf};
-ghost use Rattle.read_location.specs.Answer.{plainOf, markOf, offsetAnswer, offsetBehind, positionAnswer, intervalAnswer, uncertainOf, locationAnswer};
-
-// A position of any kind. Where a kind has no residue, none unknown, no anchor or no offset, 0..0, false, the start or no offset stands.
-pub struct Position {
-    pub aa: Span,
-    // the base, or the residue's number
-    pub number: i32,
-    pub unknown: bool,
-    pub cds_from: CdsFrom,
-    pub offset: Offset,
-}
+ghost use Rattle.read_location.specs.Answer.{markOf, offsetAnswer, offsetBehind, positionAnswer, intervalAnswer, locationAnswer};
 
 // Each answer has the length of what was found, and what is wrong with its numbers.
 enum PositionRead {
     Nothing,
     Found(Position, usize, Faults),
-}
-
-pub struct Location {
-    pub certain: bool,
-    pub start: Position,
-    pub end: Position,
 }
 
 pub enum LocationRead {
@@ -68,7 +54,7 @@ struct OffsetRead {
 fn mark_at(s: &[u8]) -> Mark
     ensures { λ r. ⌜ r ≡ markOf (parseMark (now (s .entry))) ⌝ }
 {
-    if scan::begins(s, b"+") {
+    if words::begins(s, b"+") {
         return Mark {
             len: 1,
             sign: Sign::Plain,
@@ -76,7 +62,7 @@ fn mark_at(s: &[u8]) -> Mark
             plain: false,
         };
     }
-    if scan::begins(s, b"-") {
+    if words::begins(s, b"-") {
         return Mark {
             len: 1,
             sign: Sign::Minus,
@@ -84,7 +70,7 @@ fn mark_at(s: &[u8]) -> Mark
             plain: true,
         };
     }
-    if scan::begins(s, b"*") {
+    if words::begins(s, b"*") {
         return Mark {
             len: 1,
             sign: Sign::Plain,
@@ -130,10 +116,10 @@ fn offset_at(table: &[u8; 256], s: &[u8], at: usize) -> OffsetRead
     requires { ⌜ (at + length (now s) ≤ 4096) × IsTable (now table) ⌝ }
     ensures { λ r. ⌜ r ≡ offsetAnswer at (parseOffset (now (s .entry))) ⌝ }
 {
-    if scan::begins(s, b"+") {
+    if words::begins(s, b"+") {
         return offset_behind(table, &s[1..], at, Sign::Plain);
     }
-    if scan::begins(s, b"-") {
+    if words::begins(s, b"-") {
         return offset_behind(table, &s[1..], at, Sign::Minus);
     }
     no_offset(at)
@@ -189,7 +175,7 @@ fn is_barred(kind: Kind, s: &[u8]) -> bool
     if is_starred(kind) {
         return false;
     }
-    scan::begins(s, b"*")
+    words::begins(s, b"*")
 }
 
 // c; n, r: as c without `*`.
@@ -203,19 +189,6 @@ fn based_pos(table: &[u8; 256], kind: Kind, s: &[u8], at: usize) -> PositionRead
     cds_pos(table, s, at)
 }
 
-// A position with no offset, from the start.
-fn plain(aa: Span, number: i32, unknown: bool) -> Position
-    ensures { λ r. ⌜ r ≡ plainOf aa number unknown ⌝ }
-{
-    Position {
-        aa,
-        number,
-        unknown,
-        cds_from: CdsFrom::Start,
-        offset: Offset::Absent,
-    }
-}
-
 // g, m: digits, or `?`.
 fn genome_pos(table: &[u8; 256], s: &[u8], at: usize) -> PositionRead
     requires { ⌜ (at + length (now s) ≤ 4096) × IsTable (now table) ⌝ }
@@ -223,13 +196,13 @@ fn genome_pos(table: &[u8; 256], s: &[u8], at: usize) -> PositionRead
 {
     let n = number::number_at(table, s, Sign::Plain);
     if n.len == 0 {
-        if scan::begins(s, b"?") {
-            return PositionRead::Found(plain(scan::span(0, 0), 0, true), 1, scan::no_faults());
+        if words::begins(s, b"?") {
+            return PositionRead::Found(any_location::plain(scan::span(0, 0), 0, true), 1, scan::no_faults());
         }
         return PositionRead::Nothing;
     }
     PositionRead::Found(
-        plain(scan::span(0, 0), n.value, false),
+        any_location::plain(scan::span(0, 0), n.value, false),
         n.len,
         scan::faults_of(at, n),
     )
@@ -249,7 +222,7 @@ fn prot_pos(table: &[u8; 256], s: &[u8], at: usize) -> PositionRead
         return PositionRead::Nothing;
     }
     PositionRead::Found(
-        plain(scan::span(at, k), n.value, false),
+        any_location::plain(scan::span(at, k), n.value, false),
         k + n.len,
         scan::faults_of(at + k, n),
     )
@@ -287,7 +260,7 @@ pub fn interval_at(table: &[u8; 256], kind: Kind, s: &[u8], at: usize) -> Locati
     let PositionRead::Found(start, n, faults) = pos_at(table, kind, s, at) else {
         return LocationRead::Nothing;
     };
-    if !scan::begins(&s[n..], b"_") {
+    if !words::begins(&s[n..], b"_") {
         return LocationRead::Found(
             Location {
                 certain: true,
@@ -313,19 +286,6 @@ pub fn interval_at(table: &[u8; 256], kind: Kind, s: &[u8], at: usize) -> Locati
     )
 }
 
-// The same location in brackets.
-pub fn uncertain(l: Location) -> Location
-    ensures { λ r. ⌜ r ≡ uncertainOf l ⌝ }
-{
-    let start = l.start;
-    let end = l.end;
-    Location {
-        certain: false,
-        start,
-        end,
-    }
-}
-
 // An interval, certain, or uncertain when in round brackets.
 pub fn location_at(table: &[u8; 256], kind: Kind, s: &[u8], at: usize) -> LocationRead
     requires { ⌜ (at + length (now s) ≤ 4096) × IsTable (now table) ⌝ }
@@ -337,7 +297,7 @@ pub fn location_at(table: &[u8; 256], kind: Kind, s: &[u8], at: usize) -> Locati
     };
     match scan::closing(s, a, n) {
         Ending::Bare => LocationRead::Found(l, n, faults),
-        Ending::Closed(k) => LocationRead::Found(uncertain(l), k, faults),
+        Ending::Closed(k) => LocationRead::Found(any_location::uncertain(l), k, faults),
         Ending::Missing => LocationRead::Nothing,
     }
 }

@@ -30,8 +30,8 @@ use Rattle.bodies.specs.NaBodies.{naBodyLang}
 use Rattle.bodies.specs.Settled.{settledNaBody}
 use Rattle.scan.specs.declared.Faults.{Faults}
 use Rattle.scan.specs.Faults.{faults, first, faults-append}
-use Rattle.read_location.specs.declared.Location as Raw
-use Rattle.read_location.specs.Records.{locationFor}
+use Rattle.any_location.specs.declared.Location as Raw
+use Rattle.any_location.specs.ToRecord.{locationFor}
 use Rattle.read_location.specs.Told.{LocationTold, location-within}
 use Rattle.read_na_edit.specs.Told.{MuTold}
 use Rattle.read_na_body.specs.declared.BodyRead.{BodyRead}

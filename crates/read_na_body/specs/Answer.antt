@@ -15,9 +15,9 @@ use Rattle.grammar.specs.Records.{muNaEditAt, bodyAt}
 use Rattle.grammar.specs.Numbers.{naBodyNumbers, bodyNumbers}
 use Rattle.scan.specs.Faults.{faults}
 use Rattle.bodies.specs.Settled.{settledNaBody, settledBody}
-use Rattle.read_location.specs.declared.Location.{Location}
-use Rattle.read_location.specs.Answer.{locationOf}
-use Rattle.read_location.specs.Records.{locationFor, location-for}
+use Rattle.any_location.specs.declared.Location.{Location}
+use Rattle.any_location.specs.OfTree.{locationOf}
+use Rattle.any_location.specs.ToRecord.{locationFor, location-for}
 use Rattle.read_na_body.specs.declared.BodyRead.{BodyRead}
 use Rattle.read_na_body.specs.declared.BodyRead.the-variants as BR
 

@@ -40,7 +40,7 @@ fn ident(table: &[u8; 256], s: &[u8], at: usize) -> NaEditRead
     ensures { λ r. ⌜ r ≡ naEditAnswer at (parseIdent nucleotide (now (s .entry))) ⌝ }
 {
     let m = alphabet::run_of(table, Class::Nucleotide, s);
-    if scan::begins(&s[m..], b"=") {
+    if words::begins(&s[m..], b"=") {
         let seq = scan::span(at, m);
         return NaEditRead::Found(NaEdit::RefAlt(seq, seq), m + 1, scan::no_faults());
     }
@@ -76,7 +76,7 @@ fn inserted(table: &[u8; 256], s: &[u8]) -> usize
     requires { ⌜ IsTable (now table) ⌝ }
     ensures { λ r. ⌜ r ≡ length (insertedLetters nucleotide (now (s .entry))) ⌝ }
 {
-    if scan::begins(s, b"ins") {
+    if words::begins(s, b"ins") {
         return alphabet::run_of(table, Class::Nucleotide, &s[3..]);
     }
     0
@@ -129,7 +129,7 @@ fn del(table: &[u8; 256], s: &[u8], at: usize) -> NaEditRead
     requires { ⌜ (at + length (now s) ≤ 4096) × IsTable (now table) ⌝ }
     ensures { λ r. ⌜ r ≡ naEditAnswer at (parseDel nucleotide (now (s .entry))) ⌝ }
 {
-    if scan::begins(s, b"del") {
+    if words::begins(s, b"del") {
         return after_del(table, &s[3..], at);
     }
     NaEditRead::Nothing
@@ -152,7 +152,7 @@ fn dup(table: &[u8; 256], s: &[u8], at: usize) -> NaEditRead
     requires { ⌜ (at + length (now s) ≤ 4096) × IsTable (now table) ⌝ }
     ensures { λ r. ⌜ r ≡ naEditAnswer at (parseDup nucleotide (now (s .entry))) ⌝ }
 {
-    if scan::begins(s, b"dup") {
+    if words::begins(s, b"dup") {
         let m = alphabet::run_of(table, Class::Nucleotide, &s[3..]);
         return NaEditRead::Found(NaEdit::Dup(scan::span(at + 3, m)), 3 + m, scan::no_faults());
     }
@@ -181,7 +181,7 @@ fn inv(table: &[u8; 256], s: &[u8], at: usize) -> NaEditRead
     requires { ⌜ (at + length (now s) ≤ 4096) × IsTable (now table) ⌝ }
     ensures { λ r. ⌜ r ≡ naEditAnswer at (parseInv nucleotide (now (s .entry))) ⌝ }
 {
-    if scan::begins(s, b"inv") {
+    if words::begins(s, b"inv") {
         return after_inv(table, &s[3..], at);
     }
     NaEditRead::Nothing

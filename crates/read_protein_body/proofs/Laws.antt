@@ -9,7 +9,7 @@ use lib.ListN.{length, take, drop, length-append, length-drop}
 use borrow.Author.Tests.{eq-eqb, ne-eqb}
 use Rattle.texts.specs.Ascii.{ascii}
 use Rattle.texts.specs.Slices.{tail-part, tail-at, tail-beyond}
-use Rattle.texts.specs.Words.{starts, starts-length, same, same-true, same-starts, same-lengths}
+use Rattle.texts.specs.Words.{starts, starts-length, same, same-true}
 use Rattle.record.specs.declared.Kind.the-variants.{Prot}
 use Rattle.record.specs.declared.MuProteinEdit.{MuProteinEdit}
 use Rattle.record.specs.declared.MuProteinEdit.the-variants.{Uncertain}
@@ -35,10 +35,11 @@ use Rattle.bodies.specs.Settled.{settledProteinBody}
 use Rattle.scan.specs.declared.Faults.{Faults}
 use Rattle.scan.specs.Answers.{answered, Cases, Told, told, unread}
 use Rattle.scan.specs.Faults.{faults, first, settledIf, none as noFaults, faults-append, settled-if, settled-none}
-use Rattle.read_location.specs.declared.Location.{Location}
+use Rattle.any_location.specs.declared.Location.{Location}
 use Rattle.read_location.specs.declared.LocationRead.the-variants as LR
-use Rattle.read_location.specs.Answer.{uncertainOf, intervalAnswer}
-use Rattle.read_location.specs.Records.{locationFor, location-for, uncertain-for}
+use Rattle.any_location.specs.OfTree.{uncertainOf}
+use Rattle.read_location.specs.Answer.{intervalAnswer}
+use Rattle.any_location.specs.ToRecord.{locationFor, location-for, uncertain-for}
 use Rattle.read_location.specs.Told.{IntervalTold, interval-unread, interval-within}
 use Rattle.read_protein_edit.specs.declared.ProteinEditRead.the-variants as PR
 use Rattle.read_protein_edit.specs.declared.MuProteinEditRead.the-variants as MR
@@ -52,12 +53,6 @@ use Rattle.read_protein_body.specs.declared.OrdinaryRead.the-variants as
 use Rattle.read_protein_body.specs.Answer.{exactAnswer, proteinBodies, ordinaryAnswer, afterAnswer, insideAnswer}
 
 -- ---- the texts without location
-pub is-same : (w s : List ℕ) (t : Bool) → length w ≡ length s → t ≡ starts w s → t ≡ same w s
-is-same w s t l e = e ∙ sym (same-starts w s l)
-
-pub is-other : (w s : List ℕ) → (length w ≡ length s → ⊥) → false ≡ same w s
-is-other w s n = sym (same-lengths w s n)
-
 module _ (b : ProteinBody) (bs : List ProteinBody) (s : List ℕ) where
   pub this-exact : same (printProteinBody b) s ≡ true → firstExact (b ∷ bs) s ≡ some b
   unfolding firstExact

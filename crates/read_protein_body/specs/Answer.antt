@@ -21,9 +21,9 @@ use Rattle.scan.specs.Faults.{faults, first}
 use Rattle.scan.specs.Answers.{Account, answered}
 use Rattle.protein_edits.specs.Settled.{settledProteinEdit}
 use Rattle.bodies.specs.Settled.{settledProteinBody}
-use Rattle.read_location.specs.declared.Location.{Location}
-use Rattle.read_location.specs.Answer.{uncertainOf}
-use Rattle.read_location.specs.Records.{locationFor}
+use Rattle.any_location.specs.declared.Location.{Location}
+use Rattle.any_location.specs.OfTree.{uncertainOf}
+use Rattle.any_location.specs.ToRecord.{locationFor}
 use Rattle.read_protein_body.specs.declared.ExactRead.{ExactRead}
 use Rattle.read_protein_body.specs.declared.ExactRead.the-variants as ER
 use Rattle.read_protein_body.specs.declared.OrdinaryRead.{OrdinaryRead}

@@ -1,5 +1,5 @@
 // Reading a body of p: the texts without location, tried as a whole, else location and edit, up to the end of the text.
-use read_location::Location;
+use any_location::Location;
 use read_location::LocationRead;
 use read_na_body::BodyRead;
 use read_protein_edit::MuProteinEditRead;
@@ -12,7 +12,6 @@ use scan::Faults;
 ghost use mathlib.Core.Path.{_≡_};
 ghost use Prim.Native.Nat.{_+_, _≤_};
 ghost use lib.ListN.{length};
-ghost use Rattle.texts.specs.Words.{same};
 ghost use Rattle.alphabet.specs.Cells.{IsTable};
 ghost use Rattle.protein_edits.specs.Instance.{proteinEditLang, muProteinEditLang};
 ghost use Rattle.bodies.specs.ProteinBodies.{exactBodies, firstExact, parsePlain, parseOpened, parseOrdinary, parseProteinBody};
@@ -30,38 +29,29 @@ pub enum OrdinaryRead {
     Found(ProtLocEdit, usize, Faults),
 }
 
-fn is(s: &[u8], word: &[u8]) -> bool
-    ensures { λ r. ⌜ r ≡ same (now (word .entry)) (now (s .entry)) ⌝ }
-{
-    if word.len() != s.len() {
-        return false;
-    }
-    scan::begins(s, word)
-}
-
 // The texts without location.
 fn exact(s: &[u8]) -> ExactRead
     ensures { λ r. ⌜ r ≡ exactAnswer (firstExact exactBodies (now (s .entry))) ⌝ }
 {
-    if is(s, b"Met1?") {
+    if words::same_bytes(b"Met1?", s) {
         return ExactRead::Found(ProtLocEdit::InitiationUncertain);
     }
-    if is(s, b"(Met1?)") {
+    if words::same_bytes(b"(Met1?)", s) {
         return ExactRead::Found(ProtLocEdit::InitiationUncertain);
     }
-    if is(s, b"0?") {
+    if words::same_bytes(b"0?", s) {
         return ExactRead::Found(ProtLocEdit::NoProteinUncertain);
     }
-    if is(s, b"0") {
+    if words::same_bytes(b"0", s) {
         return ExactRead::Found(ProtLocEdit::NoProtein);
     }
-    if is(s, b"(=)") {
+    if words::same_bytes(b"(=)", s) {
         return ExactRead::Found(ProtLocEdit::NoChangeUncertain);
     }
-    if is(s, b"=") {
+    if words::same_bytes(b"=", s) {
         return ExactRead::Found(ProtLocEdit::NoChange);
     }
-    if is(s, b"?") {
+    if words::same_bytes(b"?", s) {
         return ExactRead::Found(ProtLocEdit::Unknown);
     }
     ExactRead::Nothing
@@ -86,7 +76,7 @@ fn after_location(
     ) else {
         return OrdinaryRead::Nothing;
     };
-    let loc = location_record::prot_interval(l);
+    let loc = any_location::to_record::prot_interval(l);
     OrdinaryRead::Found(
         ProtLocEdit::Ordinary(loc, edit),
         n + m,
@@ -110,10 +100,10 @@ fn inside_brackets(
     else {
         return OrdinaryRead::Nothing;
     };
-    if !scan::begins(&s[m..], b")") {
+    if !words::begins(&s[m..], b")") {
         return OrdinaryRead::Nothing;
     }
-    let loc = location_record::prot_interval(read_location::uncertain(l));
+    let loc = any_location::to_record::prot_interval(any_location::uncertain(l));
     OrdinaryRead::Found(
         ProtLocEdit::Ordinary(loc, MuProteinEdit::Uncertain(edit)),
         1 + n + m + 1,
@@ -130,12 +120,12 @@ fn opened(table: &[u8; 256], s: &[u8], at: usize) -> OrdinaryRead
     else {
         return OrdinaryRead::Nothing;
     };
-    if scan::begins(&s[n..], b")") {
+    if words::begins(&s[n..], b")") {
         let k = n + 1;
         let behind = 1 + k;
         return after_location(
             table,
-            read_location::uncertain(l),
+            any_location::uncertain(l),
             behind,
             scan::settled_if(false, faults),
             &s[k..],
@@ -160,7 +150,7 @@ fn ordinary(table: &[u8; 256], s: &[u8], at: usize) -> OrdinaryRead
     requires { ⌜ (at + length (now s) ≤ 4096) × IsTable (now table) ⌝ }
     ensures { λ r. ⌜ r ≡ ordinaryAnswer at (parseOrdinary (now (s .entry))) ⌝ }
 {
-    if scan::begins(s, b"(") {
+    if words::begins(s, b"(") {
         return opened(table, &s[1..], at);
     }
     plain(table, s, at)
@@ -173,7 +163,7 @@ pub fn prot_body(table: &[u8; 256], s: &[u8], at: usize) -> BodyRead
     if let ExactRead::Found(b) = exact(s) {
         return BodyRead::Found(
             Body::Prot(b),
-            scan::settled_if(!scan::begins(s, b"("), scan::no_faults()),
+            scan::settled_if(!words::begins(s, b"("), scan::no_faults()),
         );
     }
     let OrdinaryRead::Found(b, n, faults) = ordinary(table, s, at) else {

@@ -43,13 +43,13 @@ pub struct StopRead {
 fn terminal_at(s: &[u8]) -> usize
     ensures { λ r. ⌜ r ≡ terminalLen (terminalAt (now (s .entry))) ⌝ }
 {
-    if scan::begins(s, b"Ter") {
+    if words::begins(s, b"Ter") {
         return 3;
     }
-    if scan::begins(s, b"X") {
+    if words::begins(s, b"X") {
         return 1;
     }
-    if scan::begins(s, b"*") {
+    if words::begins(s, b"*") {
         return 1;
     }
     0
@@ -68,7 +68,7 @@ fn length_at(table: &[u8; 256], s: &[u8], at: usize) -> LengthRead
             faults: scan::faults_of(at, n),
         };
     }
-    if scan::begins(s, b"?") {
+    if words::begins(s, b"?") {
         return LengthRead {
             change: UncertainLengthChange::Unknown,
             len: 1,
@@ -141,7 +141,7 @@ fn ext_neg_shift(table: &[u8; 256], s: &[u8], at: usize, n: usize) -> ProteinEdi
 {
     let m = residue::residue_at(table, s);
     let rest = &s[m..];
-    if !scan::begins(rest, b"-") {
+    if !words::begins(rest, b"-") {
         return ProteinEditRead::Nothing;
     }
     let d = number::number_at(table, &rest[1..], Sign::Negated);
@@ -192,7 +192,7 @@ fn residues_behind(table: &[u8; 256], s: &[u8], word: &[u8]) -> usize
     requires { ⌜ IsTable (now table) ⌝ }
     ensures { λ r. ⌜ r ≡ residuesBehind (now (word .entry)) (now (s .entry)) ⌝ }
 {
-    if !scan::begins(s, word) {
+    if !words::begins(s, word) {
         return 0;
     }
     let k = word.len();
@@ -212,7 +212,7 @@ fn worded(table: &[u8; 256], s: &[u8], at: usize) -> ProteinEditRead
             scan::no_faults(),
         );
     }
-    if scan::begins(s, b"del") {
+    if words::begins(s, b"del") {
         return ProteinEditRead::Found(ProteinEdit::Del, 3, scan::no_faults());
     }
     let k = residues_behind(table, s, b"ins");
@@ -223,7 +223,7 @@ fn worded(table: &[u8; 256], s: &[u8], at: usize) -> ProteinEditRead
             scan::no_faults(),
         );
     }
-    if scan::begins(s, b"dup") {
+    if words::begins(s, b"dup") {
         return ProteinEditRead::Found(ProteinEdit::Dup, 3, scan::no_faults());
     }
     ProteinEditRead::Nothing
@@ -236,16 +236,16 @@ pub fn protein_edit_at(table: &[u8; 256], s: &[u8], at: usize) -> ProteinEditRea
 {
     let n = residue::residue_at(table, s);
     let rest = &s[n..];
-    if scan::begins(rest, b"fs") {
+    if words::begins(rest, b"fs") {
         return fs(table, &rest[2..], at, n);
     }
-    if scan::begins(rest, b"ext") {
+    if words::begins(rest, b"ext") {
         return ext(table, &rest[3..], at, n);
     }
-    if scan::begins(s, b"=") {
+    if words::begins(s, b"=") {
         return ProteinEditRead::Found(ProteinEdit::Ident, 1, scan::no_faults());
     }
-    if scan::begins(s, b"?") {
+    if words::begins(s, b"?") {
         return ProteinEditRead::Found(ProteinEdit::Subst(scan::span(at, 1)), 1, scan::unsettled());
     }
     if n != 0 {

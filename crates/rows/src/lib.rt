@@ -5,7 +5,6 @@ use emit_row::Row;
 use emit_word::Word;
 use record::Span;
 ghost use mathlib.Core.Path.{_≡_};
-ghost use Rattle.texts.specs.Words.{same};
 ghost use Rattle.rows.specs.Rows.{rowIf, lettersRow, wordRow, wordAlone, isUnsigned};
 
 pub const NO_SPAN: Span = Span { start: 0, end: 0 };
@@ -57,13 +56,4 @@ pub fn is_unsigned(n: i32) -> bool
     ensures { λ r. ⌜ r ≡ isUnsigned n ⌝ }
 {
     0 <= n
-}
-
-pub fn same_bytes(a: &[u8], b: &[u8]) -> bool
-    ensures { λ r. ⌜ r ≡ same (now (a .entry)) (now (b .entry)) ⌝ }
-{
-    if a.len() != b.len() {
-        return false;
-    }
-    scan::begins(b, a)
 }

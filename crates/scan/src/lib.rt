@@ -1,10 +1,9 @@
-// What the readers share: words at the front of a text, spans, and the places of what is wrong.
+// What the readers share: brackets, spans, and the places of what is wrong.
 use number::Number;
 use record::Span;
 ghost use mathlib.Core.Path.{_≡_};
 ghost use Prim.Native.Nat.{_+_, _≤_, _<_, _^_};
 ghost use lib.ListN.{length};
-ghost use Rattle.texts.specs.Words.{starts};
 ghost use Rattle.texts.specs.Brackets.{opening as openingOf};
 ghost use Rattle.grammar.specs.Records.{span as spanFrom};
 ghost use Rattle.scan.specs.Closing.{closing as closingOf};
@@ -30,28 +29,11 @@ pub struct Verdict {
     pub place: usize,
 }
 
-// The word is the first bytes of s.
-pub fn begins(s: &[u8], word: &[u8]) -> bool
-    ensures { λ r. ⌜ r ≡ starts (now (word .entry)) (now (s .entry)) ⌝ }
-{
-    let mut i: usize = 0;
-    while i < word.len() {
-        if i == s.len() {
-            return false;
-        }
-        if word[i] != s[i] {
-            return false;
-        }
-        i += 1;
-    }
-    true
-}
-
 // How long the opening bracket at the front is: 1, or 0 where there is none.
 pub fn opening(s: &[u8]) -> usize
     ensures { λ r. ⌜ r ≡ openingOf (now (s .entry)) ⌝ }
 {
-    if begins(s, b"(") {
+    if words::begins(s, b"(") {
         return 1;
     }
     0
@@ -75,7 +57,7 @@ pub fn closing(s: &[u8], opening: usize, n: usize) -> Ending
         return Ending::Bare;
     }
     let k = opening + n;
-    if begins(&s[k..], b")") {
+    if words::begins(&s[k..], b")") {
         return Ending::Closed(k + 1);
     }
     Ending::Missing

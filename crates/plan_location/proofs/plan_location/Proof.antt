@@ -1,6 +1,6 @@
 use mathlib.Core.Path.{_≡_, sym, _∙_}
 use mathlib.Core.Bool.{true, false}
-use Rattle.same_position.specs.Same.{samePosition}
+use Rattle.any_location_same.specs.Same.{samePosition}
 use Rattle.plan_location.specs.Plan.{planLocation}
 use borrow.Author.Needs.{needs}
 use Rattle.plan_location.proofs.plan_location.Statement.{statement}

@@ -7,7 +7,8 @@ use lib.ListN.{length}
 use Rattle.texts.specs.Ascii.{ascii}
 use Rattle.alphabet.specs.Letters.{alphanumeric}
 use Rattle.alphabet.specs.Classes.{member}
-use Rattle.read_header.proofs.Laws.{optional-le, no-gene, gene-is}
+use Rattle.header_lengths.specs.Lengths.{optional-le}
+use Rattle.read_header.proofs.Laws.{no-gene, gene-is}
 use Rattle.read_header.proofs.gene_symbol.Statement.{statement}
 use Rattle.read_header.proofs.gene_symbol.Tie as tie
 

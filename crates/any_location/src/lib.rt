@@ -1,0 +1,60 @@
+// Positions and locations of any kind: what the readers make and the writers take, and the ways to a record and back.
+use record::CdsFrom;
+use record::Kind;
+use record::MuNaEdit;
+use record::Offset;
+use record::ProtLocEdit;
+use record::Span;
+ghost use mathlib.Core.Path.{_≡_};
+ghost use Rattle.any_location.specs.OfTree.{plainOf, uncertainOf};
+
+pub mod to_record; // to_record.rt: as that of a record, of each kind
+pub mod of_record; // of_record.rt: from that of a record
+
+// A position of any kind. Where a kind has no residue, none unknown, no anchor or no offset, 0..0, false, the start or no offset stands.
+pub struct Position {
+    pub aa: Span,
+    // the base, or the residue's number
+    pub number: i32,
+    pub unknown: bool,
+    pub cds_from: CdsFrom,
+    pub offset: Offset,
+}
+
+pub struct Location {
+    pub certain: bool,
+    pub start: Position,
+    pub end: Position,
+}
+
+// A body of any nucleotide kind, or of p.
+pub enum AnyBody {
+    Nucleotide(Kind, Location, MuNaEdit),
+    Protein(ProtLocEdit),
+}
+
+// A position with no offset, from the start.
+pub fn plain(aa: Span, number: i32, unknown: bool) -> Position
+    ensures { λ r. ⌜ r ≡ plainOf aa number unknown ⌝ }
+{
+    Position {
+        aa,
+        number,
+        unknown,
+        cds_from: CdsFrom::Start,
+        offset: Offset::Absent,
+    }
+}
+
+// The same location in brackets.
+pub fn uncertain(l: Location) -> Location
+    ensures { λ r. ⌜ r ≡ uncertainOf l ⌝ }
+{
+    let start = l.start;
+    let end = l.end;
+    Location {
+        certain: false,
+        start,
+        end,
+    }
+}

@@ -1,0 +1,300 @@
+// The location of a record, of each kind, as a location of any kind; and so its body.
+use crate::AnyBody;
+use crate::Location;
+use crate::Position;
+use record::Body;
+use record::CdsFrom;
+use record::CdsPos;
+use record::GenomePos;
+use record::Kind;
+use record::MtPos;
+use record::MuCdsInterval;
+use record::MuGenomeInterval;
+use record::MuMtInterval;
+use record::MuProtInterval;
+use record::MuRnaInterval;
+use record::MuTxInterval;
+use record::Offset;
+use record::ProtPos;
+use record::RnaPos;
+use record::Span;
+use record::TxPos;
+ghost use mathlib.Core.Path.{_≡_};
+ghost use Rattle.record.specs.declared.Kind.the-variants.{Cds, Genome, Mt, Tx, Prot, Rna};
+ghost use Rattle.any_location.specs.OfRecord.{anyPosition, anyLocation, anyBody};
+
+// `?` of g and m.
+const HIDDEN: Position = Position {
+    aa: Span { start: 0, end: 0 },
+    number: 0,
+    unknown: true,
+    cds_from: CdsFrom::Start,
+    offset: Offset::Absent,
+};
+
+fn cds(p: CdsPos) -> Position
+    ensures { λ r. ⌜ r ≡ anyPosition Cds p ⌝ }
+{
+    let cds_from = p.cds_from;
+    let offset = p.offset;
+    Position {
+        aa: Span { start: 0, end: 0 },
+        number: p.base,
+        unknown: false,
+        cds_from,
+        offset,
+    }
+}
+
+fn genome(p: GenomePos) -> Position
+    ensures { λ r. ⌜ r ≡ anyPosition Genome p ⌝ }
+{
+    match p {
+        GenomePos::Unknown => HIDDEN,
+        GenomePos::At(n) => Position {
+            aa: Span { start: 0, end: 0 },
+            number: n,
+            unknown: false,
+            cds_from: CdsFrom::Start,
+            offset: Offset::Absent,
+        },
+    }
+}
+
+fn mt(p: MtPos) -> Position
+    ensures { λ r. ⌜ r ≡ anyPosition Mt p ⌝ }
+{
+    match p {
+        MtPos::Unknown => HIDDEN,
+        MtPos::At(n) => Position {
+            aa: Span { start: 0, end: 0 },
+            number: n,
+            unknown: false,
+            cds_from: CdsFrom::Start,
+            offset: Offset::Absent,
+        },
+    }
+}
+
+fn tx(p: TxPos) -> Position
+    ensures { λ r. ⌜ r ≡ anyPosition Tx p ⌝ }
+{
+    let offset = p.offset;
+    Position {
+        aa: Span { start: 0, end: 0 },
+        number: p.base,
+        unknown: false,
+        cds_from: CdsFrom::Start,
+        offset,
+    }
+}
+
+fn rna(p: RnaPos) -> Position
+    ensures { λ r. ⌜ r ≡ anyPosition Rna p ⌝ }
+{
+    let offset = p.offset;
+    Position {
+        aa: Span { start: 0, end: 0 },
+        number: p.base,
+        unknown: false,
+        cds_from: CdsFrom::Start,
+        offset,
+    }
+}
+
+fn prot(p: ProtPos) -> Position
+    ensures { λ r. ⌜ r ≡ anyPosition Prot p ⌝ }
+{
+    let aa = p.aa;
+    Position {
+        aa,
+        number: p.number,
+        unknown: false,
+        cds_from: CdsFrom::Start,
+        offset: Offset::Absent,
+    }
+}
+
+fn of_cds(l: MuCdsInterval) -> Location
+    ensures { λ r. ⌜ r ≡ anyLocation Cds l ⌝ }
+{
+    match l {
+        MuCdsInterval::Certain(i) => {
+            let start = i.start;
+            let end = i.end;
+            Location {
+                certain: true,
+                start: cds(start),
+                end: cds(end),
+            }
+        }
+        MuCdsInterval::Uncertain(i) => {
+            let start = i.start;
+            let end = i.end;
+            Location {
+                certain: false,
+                start: cds(start),
+                end: cds(end),
+            }
+        }
+    }
+}
+
+fn of_genome(l: MuGenomeInterval) -> Location
+    ensures { λ r. ⌜ r ≡ anyLocation Genome l ⌝ }
+{
+    match l {
+        MuGenomeInterval::Certain(i) => {
+            let start = i.start;
+            let end = i.end;
+            Location {
+                certain: true,
+                start: genome(start),
+                end: genome(end),
+            }
+        }
+        MuGenomeInterval::Uncertain(i) => {
+            let start = i.start;
+            let end = i.end;
+            Location {
+                certain: false,
+                start: genome(start),
+                end: genome(end),
+            }
+        }
+    }
+}
+
+fn of_mt(l: MuMtInterval) -> Location
+    ensures { λ r. ⌜ r ≡ anyLocation Mt l ⌝ }
+{
+    match l {
+        MuMtInterval::Certain(i) => {
+            let start = i.start;
+            let end = i.end;
+            Location {
+                certain: true,
+                start: mt(start),
+                end: mt(end),
+            }
+        }
+        MuMtInterval::Uncertain(i) => {
+            let start = i.start;
+            let end = i.end;
+            Location {
+                certain: false,
+                start: mt(start),
+                end: mt(end),
+            }
+        }
+    }
+}
+
+fn of_tx(l: MuTxInterval) -> Location
+    ensures { λ r. ⌜ r ≡ anyLocation Tx l ⌝ }
+{
+    match l {
+        MuTxInterval::Certain(i) => {
+            let start = i.start;
+            let end = i.end;
+            Location {
+                certain: true,
+                start: tx(start),
+                end: tx(end),
+            }
+        }
+        MuTxInterval::Uncertain(i) => {
+            let start = i.start;
+            let end = i.end;
+            Location {
+                certain: false,
+                start: tx(start),
+                end: tx(end),
+            }
+        }
+    }
+}
+
+fn of_rna(l: MuRnaInterval) -> Location
+    ensures { λ r. ⌜ r ≡ anyLocation Rna l ⌝ }
+{
+    match l {
+        MuRnaInterval::Certain(i) => {
+            let start = i.start;
+            let end = i.end;
+            Location {
+                certain: true,
+                start: rna(start),
+                end: rna(end),
+            }
+        }
+        MuRnaInterval::Uncertain(i) => {
+            let start = i.start;
+            let end = i.end;
+            Location {
+                certain: false,
+                start: rna(start),
+                end: rna(end),
+            }
+        }
+    }
+}
+
+pub fn of_prot(l: MuProtInterval) -> Location
+    ensures { λ r. ⌜ r ≡ anyLocation Prot l ⌝ }
+{
+    match l {
+        MuProtInterval::Certain(i) => {
+            let start = i.start;
+            let end = i.end;
+            Location {
+                certain: true,
+                start: prot(start),
+                end: prot(end),
+            }
+        }
+        MuProtInterval::Uncertain(i) => {
+            let start = i.start;
+            let end = i.end;
+            Location {
+                certain: false,
+                start: prot(start),
+                end: prot(end),
+            }
+        }
+    }
+}
+
+// The location of each kind as one of any kind.
+pub fn any_body(b: Body) -> AnyBody
+    ensures { λ r. ⌜ r ≡ anyBody b ⌝ }
+{
+    match b {
+        Body::Cds(x) => {
+            let loc = x.loc;
+            let edit = x.edit;
+            AnyBody::Nucleotide(Kind::Cds, of_cds(loc), edit)
+        }
+        Body::Genome(x) => {
+            let loc = x.loc;
+            let edit = x.edit;
+            AnyBody::Nucleotide(Kind::Genome, of_genome(loc), edit)
+        }
+        Body::Mt(x) => {
+            let loc = x.loc;
+            let edit = x.edit;
+            AnyBody::Nucleotide(Kind::Mt, of_mt(loc), edit)
+        }
+        Body::Tx(x) => {
+            let loc = x.loc;
+            let edit = x.edit;
+            AnyBody::Nucleotide(Kind::Tx, of_tx(loc), edit)
+        }
+        Body::Prot(x) => AnyBody::Protein(x),
+        Body::Rna(x) => {
+            let loc = x.loc;
+            let edit = x.edit;
+            AnyBody::Nucleotide(Kind::Rna, of_rna(loc), edit)
+        }
+    }
+}
