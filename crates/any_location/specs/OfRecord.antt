@@ -1,9 +1,7 @@
--- A position, a location and a body of a record, as those of any kind.
+-- A position and a location of a record, as those of any kind.
 use mathlib.Core.Bool.{Bool, true, false}
 use Rattle.record.specs.declared.Kind.{Kind}
 use Rattle.record.specs.declared.Kind.the-variants.{Cds, Genome, Mt, Tx, Prot, Rna}
-use Rattle.record.specs.declared.Body.{Body}
-use Rattle.record.specs.declared.Body.the-variants as Bo
 use Rattle.record.specs.declared.CdsFrom.the-variants.{Start}
 use Rattle.record.specs.declared.GenomePos.the-variants as G
 use Rattle.record.specs.declared.MtPos.the-variants as M
@@ -16,8 +14,6 @@ use Rattle.record.specs.declared.MuProtInterval.the-variants as MuProt
 use Rattle.grammar.specs.Records.{PositionR, MuIntervalR}
 use Rattle.any_location.specs.declared.Position.{Position}
 use Rattle.any_location.specs.declared.Location.{Location}
-use Rattle.any_location.specs.declared.AnyBody.{AnyBody}
-use Rattle.any_location.specs.declared.AnyBody.the-variants.{Nucleotide, Protein}
 use Rattle.any_location.specs.OfTree.{withBase, plainOf, knownAt, notKnown}
 
 abbrev pub anyPosition : (k : Kind) → PositionR k → Position
@@ -46,11 +42,3 @@ anyLocation Prot (MuProt.Certain i) = anyMu Prot true (i .start) (i .end)
 anyLocation Prot (MuProt.Uncertain i) = anyMu Prot false (i .start) (i .end)
 anyLocation Rna (MuRna.Certain i) = anyMu Rna true (i .start) (i .end)
 anyLocation Rna (MuRna.Uncertain i) = anyMu Rna false (i .start) (i .end)
-
-abbrev pub anyBody : Body → AnyBody
-anyBody (Bo.Cds b) = Nucleotide Cds (anyLocation Cds (b .loc)) (b .edit)
-anyBody (Bo.Genome b) = Nucleotide Genome (anyLocation Genome (b .loc)) (b .edit)
-anyBody (Bo.Mt b) = Nucleotide Mt (anyLocation Mt (b .loc)) (b .edit)
-anyBody (Bo.Tx b) = Nucleotide Tx (anyLocation Tx (b .loc)) (b .edit)
-anyBody (Bo.Prot b) = Protein b
-anyBody (Bo.Rna b) = Nucleotide Rna (anyLocation Rna (b .loc)) (b .edit)

@@ -1,9 +1,6 @@
 // Positions and locations of any kind: what the readers make and the writers take, and the ways to a record and back.
 use record::CdsFrom;
-use record::Kind;
-use record::MuNaEdit;
 use record::Offset;
-use record::ProtLocEdit;
 use record::Span;
 ghost use mathlib.Core.Path.{_≡_};
 ghost use Rattle.any_location.specs.OfTree.{plainOf, uncertainOf};
@@ -25,12 +22,6 @@ pub struct Location {
     pub certain: bool,
     pub start: Position,
     pub end: Position,
-}
-
-// A body of any nucleotide kind, or of p.
-pub enum AnyBody {
-    Nucleotide(Kind, Location, MuNaEdit),
-    Protein(ProtLocEdit),
 }
 
 // A position with no offset, from the start.

@@ -1,12 +1,9 @@
-// The location of a record, of each kind, as a location of any kind; and so its body.
-use crate::AnyBody;
+// The location of a record, of each kind, as a location of any kind.
 use crate::Location;
 use crate::Position;
-use record::Body;
 use record::CdsFrom;
 use record::CdsPos;
 use record::GenomePos;
-use record::Kind;
 use record::MtPos;
 use record::MuCdsInterval;
 use record::MuGenomeInterval;
@@ -21,7 +18,7 @@ use record::Span;
 use record::TxPos;
 ghost use mathlib.Core.Path.{_≡_};
 ghost use Rattle.record.specs.declared.Kind.the-variants.{Cds, Genome, Mt, Tx, Prot, Rna};
-ghost use Rattle.any_location.specs.OfRecord.{anyPosition, anyLocation, anyBody};
+ghost use Rattle.any_location.specs.OfRecord.{anyPosition, anyLocation};
 
 // `?` of g and m.
 const HIDDEN: Position = Position {
@@ -115,7 +112,7 @@ fn prot(p: ProtPos) -> Position
     }
 }
 
-fn of_cds(l: MuCdsInterval) -> Location
+pub fn of_cds(l: MuCdsInterval) -> Location
     ensures { λ r. ⌜ r ≡ anyLocation Cds l ⌝ }
 {
     match l {
@@ -140,7 +137,7 @@ fn of_cds(l: MuCdsInterval) -> Location
     }
 }
 
-fn of_genome(l: MuGenomeInterval) -> Location
+pub fn of_genome(l: MuGenomeInterval) -> Location
     ensures { λ r. ⌜ r ≡ anyLocation Genome l ⌝ }
 {
     match l {
@@ -165,7 +162,7 @@ fn of_genome(l: MuGenomeInterval) -> Location
     }
 }
 
-fn of_mt(l: MuMtInterval) -> Location
+pub fn of_mt(l: MuMtInterval) -> Location
     ensures { λ r. ⌜ r ≡ anyLocation Mt l ⌝ }
 {
     match l {
@@ -190,7 +187,7 @@ fn of_mt(l: MuMtInterval) -> Location
     }
 }
 
-fn of_tx(l: MuTxInterval) -> Location
+pub fn of_tx(l: MuTxInterval) -> Location
     ensures { λ r. ⌜ r ≡ anyLocation Tx l ⌝ }
 {
     match l {
@@ -215,7 +212,7 @@ fn of_tx(l: MuTxInterval) -> Location
     }
 }
 
-fn of_rna(l: MuRnaInterval) -> Location
+pub fn of_rna(l: MuRnaInterval) -> Location
     ensures { λ r. ⌜ r ≡ anyLocation Rna l ⌝ }
 {
     match l {
@@ -261,40 +258,6 @@ pub fn of_prot(l: MuProtInterval) -> Location
                 start: prot(start),
                 end: prot(end),
             }
-        }
-    }
-}
-
-// The location of each kind as one of any kind.
-pub fn any_body(b: Body) -> AnyBody
-    ensures { λ r. ⌜ r ≡ anyBody b ⌝ }
-{
-    match b {
-        Body::Cds(x) => {
-            let loc = x.loc;
-            let edit = x.edit;
-            AnyBody::Nucleotide(Kind::Cds, of_cds(loc), edit)
-        }
-        Body::Genome(x) => {
-            let loc = x.loc;
-            let edit = x.edit;
-            AnyBody::Nucleotide(Kind::Genome, of_genome(loc), edit)
-        }
-        Body::Mt(x) => {
-            let loc = x.loc;
-            let edit = x.edit;
-            AnyBody::Nucleotide(Kind::Mt, of_mt(loc), edit)
-        }
-        Body::Tx(x) => {
-            let loc = x.loc;
-            let edit = x.edit;
-            AnyBody::Nucleotide(Kind::Tx, of_tx(loc), edit)
-        }
-        Body::Prot(x) => AnyBody::Protein(x),
-        Body::Rna(x) => {
-            let loc = x.loc;
-            let edit = x.edit;
-            AnyBody::Nucleotide(Kind::Rna, of_rna(loc), edit)
         }
     }
 }

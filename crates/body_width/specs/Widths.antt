@@ -23,9 +23,10 @@ use Rattle.grammar.specs.Records.{MuIntervalR}
 use Rattle.promise.specs.Width.{between, unshifted, anchored, genomeNumber, mtNumber, muCdsWidth, muGenomeWidth, muMtWidth, muTxWidth, muRnaWidth, muProtWidth, protWidth, bodyWidth}
 use Rattle.any_location.specs.declared.Position.{Position}
 use Rattle.any_location.specs.declared.Location.{Location}
-use Rattle.any_location.specs.declared.AnyBody.{AnyBody}
-use Rattle.any_location.specs.declared.AnyBody.the-variants.{Nucleotide, Protein}
-use Rattle.any_location.specs.OfRecord.{anyPosition, anyLocation, anyBody}
+use Rattle.any_body.specs.declared.AnyBody.{AnyBody}
+use Rattle.any_body.specs.declared.AnyBody.the-variants.{Nucleotide, Protein}
+use Rattle.any_location.specs.OfRecord.{anyPosition, anyLocation}
+use Rattle.any_body.specs.AnyBodies.{anyBody}
 use Rattle.body_width.specs.declared.BodyWidth.{BodyWidth}
 use Rattle.body_width.specs.declared.BodyWidth.the-variants.{NoWidth, Width}
 use Rattle.body_width.specs.declared.EndNumber.{EndNumber}

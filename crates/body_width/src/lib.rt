@@ -1,5 +1,5 @@
 // The width of a record's location: document 01, "Width".
-use any_location::AnyBody;
+use any_body::AnyBody;
 use any_location::Location;
 use any_location::Position;
 use record::Body;
@@ -101,7 +101,7 @@ fn prot_width(p: ProtLocEdit) -> BodyWidth
 pub fn body_width(b: Body) -> BodyWidth
     ensures { λ r. ⌜ widthGiven r ≡ bodyWidth b ⌝ }
 {
-    match any_location::of_record::any_body(b) {
+    match any_body::any_body(b) {
         AnyBody::Nucleotide(_, l, _) => location_width(l),
         AnyBody::Protein(p) => prot_width(p),
     }

@@ -1,5 +1,5 @@
 // The answer to reading a text as a line: the record in the form that oracle/README.md gives, or `! `, number, a blank, place.
-use any_location::AnyBody;
+use any_body::AnyBody;
 use any_location::Location;
 use fields::Fields;
 use numbered::Answer;
@@ -95,7 +95,7 @@ fn of_protein(header: Fields, x: ProtLocEdit) -> Shown {
 }
 
 fn of_body(h: Header, b: Body) -> Shown {
-    match any_location::of_record::any_body(b) {
+    match any_body::any_body(b) {
         AnyBody::Nucleotide(kind, l, e) => located(of_header(kind, h), kind, l, edits::of_na(e)),
         AnyBody::Protein(x) => of_protein(of_header(Kind::Prot, h), x),
     }

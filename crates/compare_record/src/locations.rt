@@ -1,8 +1,8 @@
 // The ends of a location.
-use any_location::Position;
-use crate::fields::Fields;
 use crate::fields;
+use crate::fields::Fields;
 use crate::forms;
+use any_location::Position;
 use record::CdsFrom;
 use record::Kind;
 use record::Offset;

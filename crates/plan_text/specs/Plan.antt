@@ -15,9 +15,9 @@ use Rattle.record.specs.declared.Body.the-variants as Bo
 use Rattle.record.specs.declared.HgvsVariant.{HgvsVariant}
 use Rattle.grammar.specs.Contents.{headerContent}
 use Rattle.headers.specs.Canonical.{canonHeader}
-use Rattle.any_location.specs.declared.AnyBody.{AnyBody}
-use Rattle.any_location.specs.declared.AnyBody.the-variants.{Nucleotide, Protein}
-use Rattle.any_location.specs.OfRecord.{anyBody}
+use Rattle.any_body.specs.declared.AnyBody.{AnyBody}
+use Rattle.any_body.specs.declared.AnyBody.the-variants.{Nucleotide, Protein}
+use Rattle.any_body.specs.AnyBodies.{anyBody}
 use Rattle.emit_piece.specs.declared.Mark.the-variants.{Nothing, Byte}
 use Rattle.emit_piece.specs.Texts.{noSpan}
 use Rattle.draft.specs.declared.Heading.{Heading}

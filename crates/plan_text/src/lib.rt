@@ -1,5 +1,5 @@
 // What is to be written for a whole record, where it has a text: header, kind and body.
-use any_location::AnyBody;
+use any_body::AnyBody;
 use draft::Draft;
 use draft::Heading;
 use emit_piece::Mark;
@@ -60,7 +60,7 @@ fn plan_body(table: &[u8; 256], source: &[u8], shortest: bool, b: Body) -> BodyP
     requires { ⌜ IsTable (now table) ⌝ }
     ensures { λ r. ⌜ r ≡ planBody (now (source .entry)) shortest b ⌝ }
 {
-    match any_location::of_record::any_body(b) {
+    match any_body::any_body(b) {
         AnyBody::Nucleotide(kind, l, edit) => {
             plan_na_body::plan_na_body(table, source, shortest, kind, l, edit)
         }

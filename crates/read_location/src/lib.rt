@@ -197,7 +197,11 @@ fn genome_pos(table: &[u8; 256], s: &[u8], at: usize) -> PositionRead
     let n = number::number_at(table, s, Sign::Plain);
     if n.len == 0 {
         if words::begins(s, b"?") {
-            return PositionRead::Found(any_location::plain(scan::span(0, 0), 0, true), 1, scan::no_faults());
+            return PositionRead::Found(
+                any_location::plain(scan::span(0, 0), 0, true),
+                1,
+                scan::no_faults(),
+            );
         }
         return PositionRead::Nothing;
     }

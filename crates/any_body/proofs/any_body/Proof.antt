@@ -1,6 +1,6 @@
 use borrow.Author.Needs.{needs}
-use Rattle.any_location.proofs.of_record.any_body.Statement.{statement}
-use Rattle.any_location.proofs.of_record.any_body.Tie as tie
+use Rattle.any_body.proofs.any_body.Statement.{statement}
+use Rattle.any_body.proofs.any_body.Tie as tie
 
 enum-known-b : tie.Need-enum-known-b
 enum-known-b c = search needs
