@@ -1,22 +1,24 @@
 -- What was counted, as the parser's answers say it. A part `&s[k..]` is `take (length s - k) (drop k s)`.
-use Prim.Native.Nat.{ℕ, suc, _+_, _-_, _≤_}
-use mathlib.Core.Path.{_≡_, refl, _∙_}
+use Prim.Native.Nat.{ℕ, suc, _+_, _-_, _≤_, _<_}
+use mathlib.Core.Path.{_≡_, refl, sym}
 use mathlib.Core.List.{List, [], _∷_, _++_}
 use mathlib.Core.Option.{Option, none, some}
-use mathlib.Core.Bool.{Bool, true, false, cond}
+use mathlib.Core.Bool.{Bool, true, false, cond, _&&_}
 use native.Mathlib.Omega.{arith}
 use native.Mathlib.Nat.{add-zero}
-use lib.ListN.{length, take, drop, length-append, length-drop}
+use lib.Dec.{eqb}
+use lib.ListN.{length, take, drop, getD, length-append, length-drop}
+use borrow.Author.Tests.{ne-eqb}
 use Rattle.texts.specs.Ascii.{ascii}
 use Rattle.texts.specs.Runs.{Some}
+use Rattle.texts.specs.Tests.{and-false}
 use Rattle.texts.specs.Slices.{tail-part}
 use Rattle.texts.specs.Words.{starts}
 use Rattle.alphabet.specs.Letters.{alphanumeric}
 use Rattle.record.specs.declared.Span.{Span}
 use Rattle.record.specs.declared.Part.the-variants.{Absent, Present}
-use Rattle.record.specs.declared.Kind.{Kind}
 use Rattle.grammar.specs.Optional.{WfOptional}
-use Rattle.grammar.specs.Header.{Accession, Accession.accession, printAccession, printGene, printKind}
+use Rattle.grammar.specs.Header.{Accession, Accession.accession, printAccession, printGene}
 use Rattle.grammar.specs.Records.{span, partOf}
 use Rattle.lang.specs.Lang.{front-within}
 use Rattle.headers.specs.Optionals.{parseOptional}
@@ -25,9 +27,8 @@ use Rattle.headers.specs.Sound.{gene-front}
 use Rattle.headers.specs.Kinds.{firstKind, parseKind}
 use Rattle.read_header.specs.declared.HeaderRead.{HeaderRead}
 use Rattle.read_header.specs.declared.HeaderRead.the-variants.{Nothing, Found}
-use Rattle.read_header.specs.declared.KindRead.the-variants as KindFound
 use Rattle.header_lengths.specs.Lengths.{optionalLength, accessionLength, accession-le}
-use Rattle.read_header.specs.Answer.{geneLength, headerAnswer, kindAnswer}
+use Rattle.read_header.specs.Answer.{geneLength, headerAnswer, kindOf}
 
 -- ---- the gene
 module _ (s : List ℕ) {n : ℕ} (e : n ≡ optionalLength (ascii "(") (parseOptional (ascii "(") alphanumeric s)) where
@@ -102,16 +103,42 @@ module _ (s : List ℕ) {n : ℕ} (e : n ≡ accessionLength (parseAccession s))
               let l : n + 1 + g + 1 ≡ n + length (ascii "(" ++ (x ++ ascii ")")) = omega (arith, length-append x (ascii ")")) in
               rw (l, eq, j) r
 
--- ---- the kind, where it is one of a row that is left to be looked for
-module _ (k : Kind) (ks : List Kind) (s : List ℕ) (e : parseKind s ≡ firstKind (k ∷ ks) s) where
-  pub this-kind : starts (printKind k) s ≡ true → KindFound.Found k ≡ kindAnswer (parseKind s)
-  unfolding firstKind kindAnswer
-  this-kind q = rw (e, q)
+-- ---- the kind: a letter between `:` and `.`
+and-unit : (t : Bool) → t && true ≡ t
+and-unit true = refl
+and-unit false = refl
 
-  pub other-kind : starts (printKind k) s ≡ false → parseKind s ≡ firstKind ks s
-  unfolding firstKind
-  other-kind q = e ∙ rw q
+other-byte : {b : ℕ} (k : ℕ) → (b ≡ k → ⊥) → eqb k b ≡ false
+other-byte {b} k h = ne-eqb k b (λ e. h (sym e))
 
-pub no-kind : (s : List ℕ) → parseKind s ≡ firstKind [] s → KindFound.Nothing ≡ kindAnswer (parseKind s)
-unfolding firstKind kindAnswer
-no-kind s e = rw e
+pub no-letter : (b : ℕ) → (b ≡ 99 → ⊥) → (b ≡ 103 → ⊥) → (b ≡ 109 → ⊥) → (b ≡ 110 → ⊥) → (b ≡ 112 → ⊥) → (b ≡ 114 → ⊥) → kindOf b ≡ none
+unfolding kindOf
+no-letter b c g m n p r = rw (other-byte 99 c, other-byte 103 g, other-byte 109 m, other-byte 110 n, other-byte 112 p, other-byte 114 r)
+
+pub kind-short : (s : List ℕ) → length s < 3 → parseKind s ≡ none
+unfolding parseKind firstKind starts
+kind-short [] h = refl
+kind-short (a ∷ []) h = simp and-false
+kind-short (a ∷ b ∷ []) h = simp and-false
+kind-short (a ∷ b ∷ c ∷ s) h = absurd (omega arith)
+
+pub no-colon : (s : List ℕ) → 3 ≤ length s → (getD s 0 0 ≡ 58 → ⊥) → parseKind s ≡ none
+unfolding parseKind firstKind starts
+no-colon [] l h = absurd (omega arith)
+no-colon (a ∷ []) l h = absurd (omega arith)
+no-colon (a ∷ b ∷ []) l h = absurd (omega arith)
+no-colon (a ∷ b ∷ c ∷ s) l h = simp (other-byte 58 h)
+
+pub no-stop : (s : List ℕ) → 3 ≤ length s → (getD s 2 0 ≡ 46 → ⊥) → parseKind s ≡ none
+unfolding parseKind firstKind starts
+no-stop [] l h = absurd (omega arith)
+no-stop (a ∷ []) l h = absurd (omega arith)
+no-stop (a ∷ b ∷ []) l h = absurd (omega arith)
+no-stop (a ∷ b ∷ c ∷ s) l h = simp (other-byte 46 h, and-false)
+
+pub kind-letter : (s : List ℕ) → 3 ≤ length s → getD s 0 0 ≡ 58 → getD s 2 0 ≡ 46 → parseKind s ≡ kindOf (getD s 1 0)
+unfolding parseKind firstKind starts kindOf
+kind-letter [] l e f = absurd (omega arith)
+kind-letter (a ∷ []) l e f = absurd (omega arith)
+kind-letter (a ∷ b ∷ []) l e f = absurd (omega arith)
+kind-letter (a ∷ b ∷ c ∷ s) l e f = simp (e, f, and-unit)

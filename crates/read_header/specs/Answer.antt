@@ -2,8 +2,11 @@
 use Prim.Native.Nat.{ℕ}
 use mathlib.Core.List.{List}
 use mathlib.Core.Option.{Option, none, some}
+use mathlib.Core.Bool.{cond}
+use lib.Dec.{eqb}
 use lib.ListN.{length}
 use Rattle.record.specs.declared.Kind.{Kind}
+use Rattle.record.specs.declared.Kind.the-variants.{Cds, Genome, Mt, Tx, Prot, Rna}
 use Rattle.grammar.specs.Header.{Header, printHeader}
 use Rattle.grammar.specs.Records.{headerAt}
 use Rattle.read_header.specs.declared.HeaderRead.{HeaderRead}
@@ -23,3 +26,13 @@ headerAnswer at (some t) = Found (headerAt at t) (length (printHeader t))
 unfoldable pub kindAnswer : Option Kind → KindRead
 kindAnswer none = KindFound.Nothing
 kindAnswer (some k) = KindFound.Found k
+
+-- the kind that a letter names
+unfoldable pub kindOf : ℕ → Option Kind
+kindOf b =
+    cond (eqb 99 b) (some Cds)
+    (cond (eqb 103 b) (some Genome)
+    (cond (eqb 109 b) (some Mt)
+    (cond (eqb 110 b) (some Tx)
+    (cond (eqb 112 b) (some Prot)
+    (cond (eqb 114 b) (some Rna) none)))))

@@ -9,7 +9,7 @@ ghost use lib.ListN.{length};
 ghost use Rattle.alphabet.specs.Cells.{IsTable};
 ghost use Rattle.headers.specs.Parse.{parseGene, parseHeader};
 ghost use Rattle.headers.specs.Kinds.{parseKind};
-ghost use Rattle.read_header.specs.Answer.{geneLength, headerAnswer, kindAnswer};
+ghost use Rattle.read_header.specs.Answer.{geneLength, headerAnswer, kindOf, kindAnswer};
 
 // The header at the front of a text, and the length of its text.
 pub enum HeaderRead {
@@ -66,27 +66,32 @@ pub fn header_at(table: &[u8; 256], s: &[u8], at: usize) -> HeaderRead
     )
 }
 
-// The kind at the front of s.
+fn kind_of(letter: u8) -> KindRead
+    ensures { λ r. ⌜ r ≡ kindAnswer (kindOf letter) ⌝ }
+{
+    match letter {
+        b'c' => KindRead::Found(Kind::Cds),
+        b'g' => KindRead::Found(Kind::Genome),
+        b'm' => KindRead::Found(Kind::Mt),
+        b'n' => KindRead::Found(Kind::Tx),
+        b'p' => KindRead::Found(Kind::Prot),
+        b'r' => KindRead::Found(Kind::Rna),
+        _ => KindRead::Nothing,
+    }
+}
+
+// The kind at the front of s: a letter between `:` and `.`.
 pub fn kind_at(s: &[u8]) -> KindRead
     ensures { λ r. ⌜ r ≡ kindAnswer (parseKind (now (s .entry))) ⌝ }
 {
-    if words::begins(s, b":c.") {
-        return KindRead::Found(Kind::Cds);
+    if s.len() < 3 {
+        return KindRead::Nothing;
     }
-    if words::begins(s, b":g.") {
-        return KindRead::Found(Kind::Genome);
+    if s[0] != b':' {
+        return KindRead::Nothing;
     }
-    if words::begins(s, b":m.") {
-        return KindRead::Found(Kind::Mt);
+    if s[2] != b'.' {
+        return KindRead::Nothing;
     }
-    if words::begins(s, b":n.") {
-        return KindRead::Found(Kind::Tx);
-    }
-    if words::begins(s, b":p.") {
-        return KindRead::Found(Kind::Prot);
-    }
-    if words::begins(s, b":r.") {
-        return KindRead::Found(Kind::Rna);
-    }
-    KindRead::Nothing
+    kind_of(s[1])
 }
