@@ -1,8 +1,8 @@
--- How the alphabets lie to each other: what passes one test and what therefore not; and that they are ASCII.
+-- How the alphabets lie to each other: what passes one test and what therefore not; and that letters and digits are ASCII.
 use Prim.Native.Nat.{ℕ, _≤_}
 use mathlib.Core.Path.{_≡_, refl}
 use mathlib.Core.Bool.{Bool, true, false, not, _&&_}
-use mathlib.Core.List.{List, [], _∷_, _++_}
+use mathlib.Core.List.{List, [], _∷_}
 use mathlib.Core.Logic.{⊎-elim}
 use native.Mathlib.Omega.{arith}
 use lib.Dec.{eqb, leb, ltb}
@@ -10,10 +10,7 @@ use borrow.Author.Tests.{eqb-true, leb-true, lt-ltb, not-true}
 use Rattle.texts.specs.Ascii.{ascii}
 use Rattle.texts.specs.Runs.{every}
 use Rattle.texts.specs.Tests.{and-true, or-true, never, clash}
-use Rattle.alphabet.specs.Letters.{among, eitherCase, digit, letter, alphanumeric, nucleotide, residue}
-use Rattle.alphabet.specs.Classes.{member}
-use Rattle.alphabet.specs.declared.Class.{Class}
-use Rattle.alphabet.specs.declared.Class.the-variants.{Digit, Letter, Alphanumeric, Nucleotide, Residue}
+use Rattle.alphabet.specs.Letters.{among, eitherCase, digit, letter, alphanumeric, nucleotide}
 
 -- ---- a byte of a list passes what every byte of the list passes
 pub among-every : (p : ℕ → Bool) (b : ℕ) (xs : List ℕ) → every p xs ≡ true → among b xs ≡ true → p b ≡ true
@@ -59,11 +56,6 @@ module _ (b : ℕ) where
   unfolding nucleotide letter every
   nucleotide-letter = among-every letter b (eitherCase (ascii "ACGTURYMKWSBDHVN")) refl
 
-  -- ---- residues
-  pub residue-bound : residue b ≡ true → b ≤ 90
-  unfolding residue every
-  residue-bound h = leb-true b 90 (among-every (λ x. leb x 90) b (ascii "ACDEFGHIKLMNPQRSTVWYBZXU" ++ ascii "*") refl h)
-
   -- ---- no byte of 128 or above
   digit-ascii : digit b ≡ true → isAscii b ≡ true
   unfolding isAscii
@@ -73,10 +65,6 @@ module _ (b : ℕ) where
   unfolding isAscii
   letter-ascii h = lt-ltb b 128 (omega (arith, letter-bounds h))
 
-  pub member-ascii : (class : Class) → member class b ≡ true → isAscii b ≡ true
-  unfolding member alphanumeric isAscii
-  member-ascii Digit h = digit-ascii h
-  member-ascii Letter h = letter-ascii h
-  member-ascii Alphanumeric h = ⊎-elim (λ q. letter-ascii q) (λ q. digit-ascii q) (or-true (letter b) (digit b) h)
-  member-ascii Nucleotide h = letter-ascii (nucleotide-letter h)
-  member-ascii Residue h = lt-ltb b 128 (omega (arith, residue-bound h))
+  pub alphanumeric-ascii : alphanumeric b ≡ true → isAscii b ≡ true
+  unfolding alphanumeric
+  alphanumeric-ascii h = ⊎-elim (λ q. letter-ascii q) (λ q. digit-ascii q) (or-true (letter b) (digit b) h)

@@ -19,6 +19,6 @@ pub mod ContentLaw
 pub mod SpanLaw
 pub mod OrderLaw
 pub mod PlaceLaw
-pub mod AsciiLaw
+pub mod BytesLaw
 pub mod Examples
 pub mod WellFormed

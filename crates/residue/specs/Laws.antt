@@ -15,9 +15,7 @@ use Rattle.texts.specs.Tests.{and-true, true-and, or-true, left-or, right-or, n
 use Rattle.texts.specs.Runs.{every, every-append, every-wider, one-every, Some, run, run-le, run-nil, run-head, run-is, front, front-every}
 use Rattle.texts.specs.Words.{same, same-true}
 use Rattle.alphabet.specs.Letters.{among, digit, residue}
-use Rattle.alphabet.specs.Classes.{member}
-use Rattle.alphabet.specs.Apart.{none-among, isAscii, member-ascii}
-use Rattle.alphabet.specs.declared.Class.the-variants.{Residue}
+use Rattle.alphabet.specs.Apart.{none-among}
 use Rattle.residue.specs.Rows.{rows}
 use Rattle.residue.specs.Residues.{oneOf, isThree, isOne, isResidue, threes, isResidues}
 use Rattle.residue.specs.Reading.{residueLen, threesLen, residuesLen, continues}
@@ -285,30 +283,30 @@ residues-sound s h = parts-residues (take (residuesLen s) s) (rw (length-take-le
     go true = right-or (threes (take (run residue s) s)) (front-every residue s)
     go false = left-or (every residue (take (threesLen s) s)) (threes-sound s)
 
--- ---- no byte of 128 or above
-one-ascii : (r : List ℕ) → isOne r ≡ true → every isAscii r ≡ true
-unfolding isOne member
-one-ascii [] h = absurd (clash h refl)
-one-ascii (b ∷ []) h = one-every isAscii b (member-ascii b Residue h)
-one-ascii (b ∷ c ∷ r) h = absurd (clash h refl)
+-- ---- every byte of a residue passes a test that the one-letter residues and the rows pass
+module _ (p : ℕ → Bool) (ones : (b : ℕ) → residue b ≡ true → p b ≡ true) (passed : each (every p) rows ≡ true) where
+  one-passes : (r : List ℕ) → isOne r ≡ true → every p r ≡ true
+  unfolding isOne
+  one-passes [] h = absurd (clash h refl)
+  one-passes (b ∷ []) h = one-every p b (ones b h)
+  one-passes (b ∷ c ∷ r) h = absurd (clash h refl)
 
-three-ascii : (r : List ℕ) → isThree r ≡ true → every isAscii r ≡ true
-unfolding isThree rows every isAscii
-three-ascii r = one-of-each (every isAscii) rows r refl
+  three-passes : (r : List ℕ) → isThree r ≡ true → every p r ≡ true
+  unfolding isThree
+  three-passes r = one-of-each (every p) rows r passed
 
-threes-ascii : (r : List ℕ) → threes r ≡ true → every isAscii r ≡ true
-unfolding threes every
-threes-ascii [] h = refl
-threes-ascii (a ∷ []) h = absurd (clash h refl)
-threes-ascii (a ∷ b ∷ []) h = absurd (clash h refl)
-threes-ascii (a ∷ b ∷ c ∷ r) h =
-    let e = and-true (isThree (a ∷ b ∷ c ∷ [])) (threes r) h in
-    every-append isAscii (a ∷ b ∷ c ∷ []) r (three-ascii (a ∷ b ∷ c ∷ []) (e .0)) (threes-ascii r (e .1))
+  threes-pass : (r : List ℕ) → threes r ≡ true → every p r ≡ true
+  unfolding threes every
+  threes-pass [] h = refl
+  threes-pass (a ∷ []) h = absurd (clash h refl)
+  threes-pass (a ∷ b ∷ []) h = absurd (clash h refl)
+  threes-pass (a ∷ b ∷ c ∷ r) h =
+      let e = and-true (isThree (a ∷ b ∷ c ∷ [])) (threes r) h in
+      every-append p (a ∷ b ∷ c ∷ []) r (three-passes (a ∷ b ∷ c ∷ []) (e .0)) (threes-pass r (e .1))
 
-pub residue-ascii : (r : List ℕ) → isResidue r ≡ true → every isAscii r ≡ true
-unfolding isResidue
-residue-ascii r h = ⊎-elim (three-ascii r) (one-ascii r) (or-true (isThree r) (isOne r) h)
+  pub residue-passes : (r : List ℕ) → isResidue r ≡ true → every p r ≡ true
+  unfolding isResidue
+  residue-passes r h = ⊎-elim (three-passes r) (one-passes r) (or-true (isThree r) (isOne r) h)
 
-pub residues-ascii : (r : List ℕ) → isResidues r ≡ true → every isAscii r ≡ true
-unfolding member
-residues-ascii r h = ⊎-elim (threes-ascii r) (every-wider residue isAscii (λ b. member-ascii b Residue) r) (residues-parts r h .1)
+  pub residues-pass : (r : List ℕ) → isResidues r ≡ true → every p r ≡ true
+  residues-pass r h = ⊎-elim (threes-pass r) (every-wider residue p ones r) (residues-parts r h .1)
