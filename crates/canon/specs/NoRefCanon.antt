@@ -12,12 +12,13 @@ use Rattle.texts.specs.Words.{same, oneEach, one-each}
 use Rattle.number.specs.Written.{unsignedDigits}
 use Rattle.record.specs.declared.Kind.{Kind}
 use Rattle.record.specs.declared.Kind.the-variants.{Cds, Genome, Mt, Tx, Prot, Rna}
+use Rattle.record.specs.declared.Wording.the-variants.{NoRef}
 use Rattle.grammar.specs.Header.{Header, printHeader, printKind}
 use Rattle.grammar.specs.Shapes.{Mu, Mu.certain, Mu.uncertain, Both.both, printMu}
 use Rattle.grammar.specs.NucleotideEdits.{NaEdit, NaEdit.equal, NaEdit.swap, NaEdit.delIns, NaEdit.delNumIns, NaEdit.del, NaEdit.ins, NaEdit.dup, NaEdit.inv, printNaEdit}
 use Rattle.grammar.specs.Bodies.{Location, printLocation, NaBody, printNaBody}
 use Rattle.grammar.specs.Texts.{Text, Text.text, print}
-use Rattle.grammar.specs.Values.{NaEditV, NaEditV.refAlt, NaEditV.numAlt, NaEditV.delRef, NaEditV.delNum, NaEditV.insV, NaEditV.dupV, NaEditV.invRef, NaEditV.invNum, EndsV, NaBodyV, HeaderV, BodyV, Value, Value.value}
+use Rattle.grammar.specs.Values.{NaEditV, NaEditV.refAlt, NaEditV.numAlt, NaEditV.delRef, NaEditV.delNum, NaEditV.insV, NaEditV.dupV, NaEditV.invRef, NaEditV.invNum, EndsV, NaBodyV, HeaderV, Value, Value.value}
 use Rattle.grammar.specs.Meaning.{mapMu}
 use Rattle.lang.specs.Canon.{canon-some, mapO, map-some, bothO, both-some}
 use Rattle.location.specs.Languages.{locationLang}
@@ -30,35 +31,9 @@ use Rattle.headers.specs.Sound.{headerLang}
 use Rattle.headers.specs.Canonical.{canonHeader, headerCanon}
 use Rattle.promise.specs.NoRef.{noRefEdit, ShortestHeader, ShortestLocation, NaNoRef, NoRefText}
 use Rattle.promise.specs.Unique.{one-no-ref}
+use Rattle.canon.specs.Changes.{noRefNaEdit, changedNaBody, changed}
 use Rattle.canon.specs.NaBodyCanon.{naBodyCanon}
 use Rattle.canon.specs.TextCanon.{canonText, text-some}
-
--- the edit without the letters and the count of the reference
-abbrev pub noRefNaEdit : NaEditV → NaEditV
-noRefNaEdit (refAlt a b) = cond (same a b) (refAlt [] []) (cond (oneEach a b) (refAlt a b) (refAlt [] b))
-noRefNaEdit (numAlt n b) = refAlt [] b
-noRefNaEdit (delRef a) = delRef []
-noRefNaEdit (delNum n) = delRef []
-noRefNaEdit (insV b) = insV b
-noRefNaEdit (dupV a) = dupV []
-noRefNaEdit (invRef a) = invRef []
-noRefNaEdit (invNum n) = invRef []
-
--- brackets stay
-abbrev pub noRefNaBody : (k : Kind) → NaBodyV k → NaBodyV k
-noRefNaBody k (both l e) = both l (mapMu noRefNaEdit e)
-
--- p is written as in shortest writing
-abbrev pub noRefBody : (k : Kind) → BodyV k → BodyV k
-noRefBody Cds = noRefNaBody Cds
-noRefBody Genome = noRefNaBody Genome
-noRefBody Mt = noRefNaBody Mt
-noRefBody Tx = noRefNaBody Tx
-noRefBody Prot = λ b. b
-noRefBody Rna = noRefNaBody Rna
-
-abbrev pub noRefValue : Value → Value
-noRefValue (value h k b) = value h k (noRefBody k b)
 
 -- ---- edits
 -- the changed edit has a text, and it is the table's
@@ -107,6 +82,10 @@ module _ (na : ℕ → Bool) where
   edit-found (invRef a) t e = record { tree = inv []; found = refl; text = refl }
   edit-found (invNum n) t e = record { tree = inv []; found = refl; text = refl }
 
+-- what is written for the changed edit, where the edit as it came has a text
+pub no-ref-edit : (na : ℕ → Bool) (v : NaEditV) (t : NaEdit) → canonNaEdit na v ≡ some t → mapO printNaEdit (canonNaEdit na (noRefNaEdit v)) ≡ some (noRefEdit v)
+no-ref-edit na v t e = let f = edit-found na v t e in rw (f .found) (ap some (f .text))
+
 -- ---- in brackets or not
 record MuFound (na : ℕ → Bool) (al : Alphabet na) (e : Mu NaEditV) : Type 0 where
   tree : Mu NaEdit
@@ -141,17 +120,17 @@ some-both : {A B C : Type 0} (f : A → B → C) {o : Option A} {u : Option B} {
 some-both f p q = rw (p, q)
 
 module _ (letters : Kind → ℕ → Bool) (al : (k : Kind) → Alphabet (letters k)) where
-  -- the changed value has a canonical text, and it is the text of reference-free writing
-  pub record NoRefFound (v : Value) : Type 0 where
+  -- the value has a canonical text, and it is a text of some sort
+  pub record TextFound (v : Value) (Sort : List ℕ → Type 0) : Type 0 where
     pub tree : Text
-    pub found : canonText letters al (noRefValue v) ≡ some tree
-    pub text : NoRefText letters v (print tree)
+    pub found : canonText letters al v ≡ some tree
+    pub text : Sort (print tree)
 
   record BodyFound (h : HeaderV) (k : Kind) (b : NaBodyV k) : Type 0 where
     head : Header
     body : NaBody k
     header-found : canonHeader h ≡ some head
-    body-found : naBodyCanon (letters k) (al k) k .canon (noRefNaBody k b) ≡ some body
+    body-found : naBodyCanon (letters k) (al k) k .canon (changedNaBody NoRef k b) ≡ some body
     text : NaNoRef h k b (printHeader head ++ (printKind k ++ printNaBody k body))
 
   body-found : (h : HeaderV) (k : Kind) (b : NaBodyV k) (made : Header → NaBody k → Text) (x : Text) → bothO made (canonHeader h) (naBodyCanon (letters k) (al k) k .canon b) ≡ some x → BodyFound h k b
@@ -173,7 +152,8 @@ module _ (letters : Kind → ℕ → Bool) (al : (k : Kind) → Alphabet (letter
         };
       }
 
-  pub no-ref-some : (v : Value) (x : Text) → canonText letters al v ≡ some x → NoRefFound v
+  -- the changed value's is the text of reference-free writing
+  pub no-ref-some : (v : Value) (x : Text) → canonText letters al v ≡ some x → TextFound (changed NoRef v) (NoRefText letters v)
   no-ref-some (value h Cds b) x e =
       let f = body-found h Cds b (λ a c. text a Cds c) x e in
       record { tree = text (f .head) Cds (f .body); found = rw (f .header-found, f .body-found); text = f .text }
@@ -192,7 +172,7 @@ module _ (letters : Kind → ℕ → Bool) (al : (k : Kind) → Alphabet (letter
       record { tree = text (f .head) Rna (f .body); found = rw (f .header-found, f .body-found); text = f .text }
 
   -- and no other text is
-  pub no-ref-only : (v : Value) (x y : Text) → canonText letters al v ≡ some x → canonText letters al (noRefValue v) ≡ some y → (t : List ℕ) → NoRefText letters v t → t ≡ print y
+  pub no-ref-only : (v : Value) (x y : Text) → canonText letters al v ≡ some x → canonText letters al (changed NoRef v) ≡ some y → (t : List ℕ) → NoRefText letters v t → t ≡ print y
   no-ref-only v x y e g t n =
       let f = no-ref-some v x e in
       let i : f .tree ≡ y = cc (f .found) in

@@ -1,69 +1,68 @@
--- The text to be written for a value that has one: its shortest text, or that without the reference.
+-- Which text is wanted of a value, and that it is the canonical text of the changed value, where the value as it came has a text.
 use Prim.Native.Nat.{ℕ}
-use mathlib.Core.Path.{_≡_, refl}
-use mathlib.Core.List.{List, _++_}
-use mathlib.Core.Option.{some}
-use mathlib.Core.Bool.{Bool, true, false}
+use mathlib.Core.Path.{_≡_, refl, sym, _∙_}
+use mathlib.Core.List.{List}
+use mathlib.Core.Option.{Option, none, some}
+use mathlib.Core.Bool.{Bool}
+use Rattle.texts.specs.Tests.{none-some}
 use Rattle.record.specs.declared.Kind.{Kind}
-use Rattle.record.specs.declared.Kind.the-variants.{Cds, Genome, Mt, Tx, Prot, Rna}
-use Rattle.grammar.specs.Header.{Header, printHeader, printKind}
-use Rattle.grammar.specs.Shapes.{Both.both, printMu}
-use Rattle.grammar.specs.Bodies.{printLocation, NaBody, printNaBody, printProteinBody, Body}
-use Rattle.grammar.specs.Texts.{Text.text}
-use Rattle.grammar.specs.Values.{NaBodyV, HeaderV, BodyV, Value, Value.value}
-use Rattle.lang.specs.Canon.{both-some}
-use Rattle.location.specs.Canonical.{locationCanon}
+use Rattle.record.specs.declared.Wording.{Wording}
+use Rattle.record.specs.declared.Wording.the-variants.{Shortest, NoRef}
+use Rattle.grammar.specs.NucleotideEdits.{NaEdit}
+use Rattle.grammar.specs.Bodies.{NaBody, Body}
+use Rattle.grammar.specs.Texts.{Text, Text.text, print}
+use Rattle.grammar.specs.Values.{NaEditV, NaBodyV, HeaderV, BodyV, Value, Value.value}
+use Rattle.lang.specs.Canon.{bothO, ifSome, if-some, if-both}
 use Rattle.na_edits.specs.Alphabet.{Alphabet}
-use Rattle.na_edits.specs.Canonical.{muNaEditCanon}
+use Rattle.na_edits.specs.Canon.{canonNaEdit}
 use Rattle.headers.specs.Canonical.{canonHeader}
-use Rattle.promise.specs.Writing.{ToWrite}
-use Rattle.promise.specs.NoRef.{noRefEdit, NaNoRef, NoRefText}
+use Rattle.promise.specs.Writing.{ReadsAsValue, ToWrite}
+use Rattle.promise.specs.NoRef.{NoRefText}
+use Rattle.canon.specs.Changes.{changedNaEdit, changedNaBody, changedBody, changed, unchanged}
 use Rattle.canon.specs.NaBodyCanon.{naBodyCanon}
-use Rattle.canon.specs.NoRefCanon.{header-shortest, location-shortest}
-use Rattle.canon.specs.TextCanon.{canonBody, text-some}
+use Rattle.canon.specs.NoRefCanon.{TextFound, no-ref-some}
+use Rattle.canon.specs.TextCanon.{canonBody, canonText, text-some, text-none}
 
--- what is written for a body, beside the tree that canon gives for it
-abbrev pub naWords : Bool → (k : Kind) → NaBodyV k → NaBody k → List ℕ
-naWords true k v t = printNaBody k t
-naWords false k (both l e) (both a b) = printLocation k a ++ printMu noRefEdit e
+-- ---- the tree to be written, of an edit, a body, a text
+abbrev pub wordedNaEdit : (ℕ → Bool) → Wording → NaEditV → Option NaEdit
+wordedNaEdit na w v = ifSome (canonNaEdit na v) (canonNaEdit na (changedNaEdit w v))
 
-abbrev pub bodyWords : Bool → (k : Kind) → BodyV k → Body k → List ℕ
-bodyWords isShortest Cds = naWords isShortest Cds
-bodyWords isShortest Genome = naWords isShortest Genome
-bodyWords isShortest Mt = naWords isShortest Mt
-bodyWords isShortest Tx = naWords isShortest Tx
-bodyWords isShortest Prot = λ v t. printProteinBody t
-bodyWords isShortest Rna = naWords isShortest Rna
+abbrev pub wordedNaBody : (na : ℕ → Bool) → Alphabet na → Wording → (k : Kind) → NaBodyV k → Option (NaBody k)
+wordedNaBody na al w k b = ifSome (naBodyCanon na al k .canon b) (naBodyCanon na al k .canon (changedNaBody w k b))
 
 module _ (letters : Kind → ℕ → Bool) where
   -- which text it is to be
-  abbrev pub Wanted : Bool → Value → List ℕ → Type 0
-  Wanted true = ToWrite letters
-  Wanted false = NoRefText letters
+  abbrev pub Wanted : Wording → Value → List ℕ → Type 0
+  Wanted Shortest = ToWrite letters
+  Wanted NoRef = NoRefText letters
 
-  module _ (al : (k : Kind) → Alphabet (letters k)) (h : HeaderV) (head : Header) (found : canonHeader h ≡ some head) where
-    no-ref-words : (k : Kind) (v : NaBodyV k) (t : NaBody k) → naBodyCanon (letters k) (al k) k .canon v ≡ some t → NaNoRef h k v (printHeader head ++ (printKind k ++ naWords false k v t))
-    no-ref-words k (both l e) (both a b) q =
-        let s = both-some both (locationCanon k .canon l) (muNaEditCanon (letters k) (al k) .canon e) (both a b) q in
-        let i : s .0 ≡ a = cc (s .1 .1 .1 .1) in
-        record {
-          head = printHeader head;
-          location = printLocation k a;
-          header-is = header-shortest h head found;
-          location-is = location-shortest k l a (rw i at (s .1 .1 .0));
-          text = refl;
-        }
+  module _ (al : (k : Kind) → Alphabet (letters k)) (w : Wording) where
+    abbrev pub wordedBody : (k : Kind) → BodyV k → Option (Body k)
+    wordedBody k b = ifSome (canonBody letters al k b) (canonBody letters al k (changedBody w k b))
 
-    pub words-wanted : (isShortest : Bool) (k : Kind) (v : BodyV k) (t : Body k) → canonBody letters al k v ≡ some t → Wanted isShortest (value h k v) (printHeader head ++ (printKind k ++ bodyWords isShortest k v t))
-    words-wanted true Cds v t q = text-some letters al (value h Cds v) (text head Cds t) (rw (found, q))
-    words-wanted true Genome v t q = text-some letters al (value h Genome v) (text head Genome t) (rw (found, q))
-    words-wanted true Mt v t q = text-some letters al (value h Mt v) (text head Mt t) (rw (found, q))
-    words-wanted true Tx v t q = text-some letters al (value h Tx v) (text head Tx t) (rw (found, q))
-    words-wanted true Prot v t q = text-some letters al (value h Prot v) (text head Prot t) (rw (found, q))
-    words-wanted true Rna v t q = text-some letters al (value h Rna v) (text head Rna t) (rw (found, q))
-    words-wanted false Cds v t q = no-ref-words Cds v t q
-    words-wanted false Genome v t q = no-ref-words Genome v t q
-    words-wanted false Mt v t q = no-ref-words Mt v t q
-    words-wanted false Tx v t q = no-ref-words Tx v t q
-    words-wanted false Prot v t q = text-some letters al (value h Prot v) (text head Prot t) (rw (found, q))
-    words-wanted false Rna v t q = no-ref-words Rna v t q
+    abbrev pub wordedText : Value → Option Text
+    wordedText v = ifSome (canonText letters al v) (canonText letters al (changed w v))
+
+    pub text-parts : (h : HeaderV) (k : Kind) (b : BodyV k) → wordedText (value h k b) ≡ bothO (λ x y. text x k y) (canonHeader h) (wordedBody k b)
+    text-parts h k b = if-both (λ x y. text x k y) (canonHeader h) (canonBody letters al k b) (canonBody letters al k (changedBody w k b))
+
+  module _ (al : (k : Kind) → Alphabet (letters k)) where
+    changed-found : (w : Wording) (v : Value) (x : Text) → canonText letters al v ≡ some x → TextFound letters al (changed w v) (Wanted w v)
+    changed-found Shortest v x e = record { tree = x; found = rw (unchanged v) e; text = text-some letters al v x e }
+    changed-found NoRef v x e = no-ref-some letters al v x e
+
+    module _ (w : Wording) (v : Value) where
+      -- it is the wanted text, of a value that has one
+      pub worded-some : (x : Text) → wordedText al w v ≡ some x → (y : Text) × ((canonText letters al v ≡ some y) × Wanted w v (print x))
+      worded-some x e =
+          let h = if-some (canonText letters al v) (canonText letters al (changed w v)) x e in
+          let f = changed-found w v (h .0) (h .1 .0) in
+          let i : f .tree ≡ x = cc (f .found, h .1 .1) in
+          (h .0, (h .1 .0, rw i at (f .text)))
+
+      pub worded-none : wordedText al w v ≡ none → (t : List ℕ) → ReadsAsValue letters t v → ⊥
+      worded-none e = go (canonText letters al v) refl
+        where
+          go : (o : Option Text) → canonText letters al v ≡ o → (t : List ℕ) → ReadsAsValue letters t v → ⊥
+          go none q = text-none letters al v q
+          go (some y) q = absurd (none-some (sym (rw q at e) ∙ changed-found w v y q .found))

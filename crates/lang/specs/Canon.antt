@@ -77,3 +77,24 @@ bothO f (some a) o = mapO (f a) o
 pub both-some : {A B C : Type 0} (f : A → B → C) (o : Option A) (u : Option B) (c : C) → bothO f o u ≡ some c → (a : A) × ((b : B) × ((o ≡ some a) × ((u ≡ some b) × (f a b ≡ c))))
 both-some f none u c e = absurd (none-some e)
 both-some f (some a) u c e = let h = map-some (f a) u c e in (a, (h .0, (refl, h .1)))
+
+-- ---- what canon found for another value, where it found something for the first
+abbrev pub ifSome : {A B : Type 0} → Option A → Option B → Option B
+ifSome none u = none
+ifSome (some a) u = u
+
+pub if-some : {A B : Type 0} (o : Option A) (u : Option B) (b : B) → ifSome o u ≡ some b → (a : A) × ((o ≡ some a) × (u ≡ some b))
+if-some none u b e = absurd (none-some e)
+if-some (some a) u b e = (a, (refl, e))
+
+pub if-same : {A : Type 0} (o : Option A) → ifSome o o ≡ o
+if-same none = refl
+if-same (some a) = refl
+
+pub if-map : {A B : Type 0} (f : A → B) (o u : Option A) → ifSome (mapO f o) (mapO f u) ≡ mapO f (ifSome o u)
+if-map f none u = refl
+if-map f (some a) u = refl
+
+pub if-both : {A B C : Type 0} (f : A → B → C) (x : Option A) (o u : Option B) → ifSome (bothO f x o) (bothO f x u) ≡ bothO f x (ifSome o u)
+if-both f none o u = refl
+if-both f (some a) o u = if-map (f a) o u

@@ -7,6 +7,7 @@ use lib.ListN.{length}
 use Rattle.record.specs.declared.WidthAnswer.{WidthAnswer}
 use Rattle.record.specs.declared.WidthAnswer.the-variants.{Width, TooLong, BadSpan, NoText, NoWidth}
 use Rattle.record.specs.declared.HgvsVariant.{HgvsVariant}
+use Rattle.record.specs.declared.Wording.the-variants.{Shortest}
 use Rattle.grammar.specs.Texts.{allLetters}
 use Rattle.grammar.specs.Contents.{spansInside}
 use Rattle.promise.specs.Outcome.{widthOutcome, limit}
@@ -32,12 +33,12 @@ module _ (source : List ℕ) (v : HgvsVariant) where
     bad-span i = Measures.unsound 4 (Unsound.badSpan short i)
 
     module _ (isIn : spansInside (length source) v ≡ true) where
-      pub no-text : textPlan source true v ≡ Plans.NoText → Answers NoText
-      no-text e = Measures.unsound 5 (unsound-plan source true v short isIn e)
+      pub no-text : textPlan source Shortest v ≡ Plans.NoText → Answers NoText
+      no-text e = Measures.unsound 5 (unsound-plan source Shortest v short isIn e)
 
-      module _ (d : Draft) (e : textPlan source true v ≡ Plans.Text d) (w : BodyWidth) (f : widthGiven w ≡ bodyWidth (v .body)) where
+      module _ (d : Draft) (e : textPlan source Shortest v ≡ Plans.Text d) (w : BodyWidth) (f : widthGiven w ≡ bodyWidth (v .body)) where
         pub no-width : w ≡ Widths.NoWidth → Answers NoWidth
-        no-width g = Measures.noWidth (sound-plan source true v short isIn d e .0) (sym (rw g at f))
+        no-width g = Measures.noWidth (sound-plan source Shortest v short isIn d e .0) (sym (rw g at f))
 
         pub measured : (n : ℕ) → w ≡ Widths.Width n → Answers (Width n)
-        measured n g = Measures.measured (sound-plan source true v short isIn d e .0) n (sym (rw g at f))
+        measured n g = Measures.measured (sound-plan source Shortest v short isIn d e .0) n (sym (rw g at f))

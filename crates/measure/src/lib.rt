@@ -3,6 +3,7 @@ use body_width::BodyWidth;
 use plan_text::TextPlan;
 use record::HgvsVariant;
 use record::WidthAnswer;
+use record::Wording;
 ghost use Rattle.grammar.specs.Texts.{allLetters};
 ghost use Rattle.promise.specs.Outcome.{widthOutcome};
 ghost use Rattle.promise.specs.Width.{Measures};
@@ -17,7 +18,7 @@ pub fn width(source: &[u8], v: HgvsVariant) -> WidthAnswer
     if !record_inside::spans_inside(source.len(), v) {
         return WidthAnswer::BadSpan;
     }
-    let TextPlan::Text(_) = plan_text::plan_text(source, true, v) else {
+    let TextPlan::Text(_) = plan_text::plan_text(source, Wording::Shortest, v) else {
         return WidthAnswer::NoText;
     };
     let body = v.body;

@@ -2,11 +2,13 @@
 use Prim.Native.Nat.{ℕ}
 use Prim.Native.Char.{code}
 use mathlib.Core.List.{List}
-use mathlib.Core.Bool.{Bool, true, false, cond}
+use mathlib.Core.Bool.{Bool, true, false}
 use Rattle.record.specs.declared.Kind.{Kind}
 use Rattle.record.specs.declared.NaEdit.{NaEdit}
 use Rattle.record.specs.declared.MuNaEdit.{MuNaEdit}
 use Rattle.record.specs.declared.MuNaEdit.the-variants as MuNa
+use Rattle.record.specs.declared.Wording.{Wording}
+use Rattle.record.specs.declared.Wording.the-variants.{Shortest, NoRef}
 use Rattle.any_location.specs.declared.Location.{Location}
 use Rattle.emit_place.specs.declared.Place.{Place}
 use Rattle.emit_row.specs.declared.Row.{Row}
@@ -43,9 +45,10 @@ abbrev pub editOf : MuNaEdit → NaEdit
 editOf (MuNa.Certain e) = e
 editOf (MuNa.Uncertain e) = e
 
-module _ (s : List ℕ) (isShortest : Bool) where
-  unfoldable pub naRow : NaEdit → RowPlan
-  naRow e = cond isShortest (planNaEdit s e) (replacedRow (planNaEdit s e) (noRefRow s e))
+module _ (s : List ℕ) where
+  unfoldable pub naRow : Wording → NaEdit → RowPlan
+  naRow Shortest e = planNaEdit s e
+  naRow NoRef e = replacedRow (planNaEdit s e) (noRefRow s e)
 
-  abbrev pub planNaBody : Kind → Location → MuNaEdit → BodyPlan
-  planNaBody k l e = joinedPlan (isCertain e) (planLocation s k l) (naRow (editOf e))
+  abbrev pub planNaBody : Wording → Kind → Location → MuNaEdit → BodyPlan
+  planNaBody w k l e = joinedPlan (isCertain e) (planLocation s k l) (naRow w (editOf e))

@@ -1,4 +1,4 @@
--- The text of a planned nucleotide body: that of its canonical tree, with the edit's own words or those without the reference.
+-- The text of a planned nucleotide body: the canonical text of the changed body, where the body as it came has one.
 use Prim.Native.Nat.{ℕ}
 use Prim.Native.Char.{code}
 use mathlib.Core.Path.{_≡_, refl, sym, ap, _∙_}
@@ -12,18 +12,18 @@ use Rattle.record.specs.declared.Kind.{Kind}
 use Rattle.record.specs.declared.NaEdit.{NaEdit}
 use Rattle.record.specs.declared.MuNaEdit.{MuNaEdit}
 use Rattle.record.specs.declared.MuNaEdit.the-variants as MuNa
+use Rattle.record.specs.declared.Wording.{Wording}
+use Rattle.record.specs.declared.Wording.the-variants.{Shortest, NoRef}
 use Rattle.grammar.specs.NucleotideEdits as Tree
 use Rattle.grammar.specs.NucleotideEdits.{printNaEdit}
-use Rattle.grammar.specs.Shapes.{Mu, Both.both}
-use Rattle.grammar.specs.Bodies.{Location, printLocation}
-use Rattle.grammar.specs.Values.{EndsV, NaEditV}
+use Rattle.grammar.specs.Shapes.{Mu.certain, Mu.uncertain, Both.both}
+use Rattle.grammar.specs.Bodies.{Location, printLocation, printNaBody}
 use Rattle.grammar.specs.Records.{MuIntervalR}
 use Rattle.grammar.specs.Contents.{locationContent, naEditContent, muNaEditContent}
-use Rattle.lang.specs.Canon.{mapO, bothO}
+use Rattle.lang.specs.Canon.{mapO, bothO, ifSome, if-same, if-map, if-both}
 use Rattle.location.specs.Canonical.{locationCanon}
 use Rattle.na_edits.specs.Alphabet.{nucleotides}
 use Rattle.na_edits.specs.Canon.{canonNaEdit}
-use Rattle.promise.specs.NoRef.{noRefEdit}
 use Rattle.any_location.specs.OfRecord.{anyLocation}
 use Rattle.emit_piece.specs.Texts.{markText}
 use Rattle.emit_row.specs.Texts.{rowText}
@@ -33,8 +33,9 @@ use Rattle.rows.specs.declared.RowPlan.{RowPlan}
 use Rattle.rows.specs.declared.RowPlan.the-variants as Rows
 use Rattle.rows.specs.Rows as R
 use Rattle.draft.specs.Texts.{bodyText}
-use Rattle.canon.specs.NaBodyCanon.{naBodyCanon}
-use Rattle.canon.specs.Wording.{naWords}
+use Rattle.canon.specs.Changes.{noRefNaEdit, changedNaEdit}
+use Rattle.canon.specs.NoRefCanon.{no-ref-edit}
+use Rattle.canon.specs.Wording.{wordedNaEdit, wordedNaBody}
 use Rattle.plan_location.specs.declared.PlacePlan.{PlacePlan}
 use Rattle.plan_location.specs.declared.PlacePlan.the-variants as Places
 use Rattle.plan_location.specs.Plan.{bracketMark, planLocation}
@@ -56,20 +57,16 @@ bracketed : (isCertain : Bool) (t : List ℕ) → markText (bracketMark isCertai
 bracketed true t = append-nil t
 bracketed false t = refl
 
--- an edit's words, with the reference or without
-abbrev editWords : Bool → NaEditV → Tree.NaEdit → List ℕ
-editWords true v t = printNaEdit t
-editWords false v t = noRefEdit v
+-- a body's text is that of its location and its edit
+body-is : (isCertain : Bool) (k : Kind) (o : Option (Location k)) (u : Option Tree.NaEdit) → bothO (λ a b. printLocation k a ++ wrapped isCertain (printNaEdit b)) o u ≡ mapO (printNaBody k) (bothO both o (mapO (muOf isCertain) u))
+body-is c k none u = refl
+body-is c k (some a) none = refl
+body-is true k (some a) (some b) = refl
+body-is false k (some a) (some b) = refl
 
--- a body's are those of its location and its edit
-words-are : (isShortest isCertain : Bool) (k : Kind) (l : Mu (EndsV k)) (v : NaEditV) (o : Option (Location k)) (u : Option Tree.NaEdit)
-    → bothO (λ a b. printLocation k a ++ wrapped isCertain (editWords isShortest v b)) o u ≡ mapO (naWords isShortest k (both l (muOf isCertain v))) (bothO both o (mapO (muOf isCertain) u))
-words-are t c k l v none u = refl
-words-are t c k l v (some a) none = refl
-words-are true true k l v (some a) (some b) = refl
-words-are true false k l v (some a) (some b) = refl
-words-are false true k l v (some a) (some b) = refl
-words-are false false k l v (some a) (some b) = refl
+-- beside one location, the changed edit in its brackets
+beside : {A B C : Type 0} (f : A → B → C) (g : Tree.NaEdit → B) (x : Option A) (o u : Option Tree.NaEdit) → ifSome (bothO f x (mapO g o)) (bothO f x (mapO g u)) ≡ bothO f x (mapO g (ifSome o u))
+beside f g x o u = if-both f x (mapO g o) (mapO g u) ∙ ap (bothO f x) (if-map g o u)
 
 module _ (s : List ℕ) where
   abbrev pub planText : BodyPlan → Option (List ℕ)
@@ -91,28 +88,34 @@ module _ (s : List ℕ) where
       let j : rowText s row ≡ g b = cc in
       rw (i, j) (ap (λ (w : List ℕ). some (f a ++ w)) (bracketed t (g b)))
 
-  replaced-text : (planned : RowPlan) (row : Row) (o : Option Tree.NaEdit) (w : List ℕ) → R.planText s planned ≡ mapO printNaEdit o → rowText s row ≡ w → R.planText s (replacedRow planned row) ≡ mapO (λ t. w) o
-  replaced-text Rows.NoText row none w e h = refl
-  replaced-text Rows.NoText row (some t) w e h = absurd (none-some e)
-  replaced-text (Rows.Text planned) row none w e h = absurd (none-some (sym e))
-  replaced-text (Rows.Text planned) row (some t) w e h = ap some h
+  -- another row for an edit that has a text
+  replaced-text : (planned : RowPlan) (row : Row) (o u : Option Tree.NaEdit) → R.planText s planned ≡ mapO printNaEdit o → ((t : Tree.NaEdit) → o ≡ some t → mapO printNaEdit u ≡ some (rowText s row)) → R.planText s (replacedRow planned row) ≡ mapO printNaEdit (ifSome o u)
+  replaced-text Rows.NoText row none u e h = refl
+  replaced-text Rows.NoText row (some t) u e h = absurd (none-some e)
+  replaced-text (Rows.Text planned) row none u e h = absurd (none-some (sym e))
+  replaced-text (Rows.Text planned) row (some t) u e h = sym (h t refl)
 
-  row-text : (isShortest : Bool) (e : NaEdit) → R.planText s (naRow s isShortest e) ≡ mapO (editWords isShortest (naEditContent s e)) (canonNaEdit nucleotide (naEditContent s e))
+  row-text : (w : Wording) (e : NaEdit) → R.planText s (naRow s w e) ≡ mapO printNaEdit (wordedNaEdit nucleotide w (naEditContent s e))
   unfolding naRow
-  row-text true e = E.planned s e
-  row-text false e = replaced-text (planNaEdit s e) (noRefRow s e) (canonNaEdit nucleotide (naEditContent s e)) (noRefEdit (naEditContent s e)) (E.planned s e) (no-ref-text s e)
+  row-text Shortest e = rw (if-same (canonNaEdit nucleotide (naEditContent s e))) (E.planned s e)
+  row-text NoRef e =
+      let v = naEditContent s e in
+      replaced-text (planNaEdit s e) (noRefRow s e) (canonNaEdit nucleotide v) (canonNaEdit nucleotide (noRefNaEdit v)) (E.planned s e) (λ t q. rw (no-ref-text s e) (no-ref-edit nucleotide v t q))
 
-  body-text : (isShortest isCertain : Bool) (k : Kind) (l : MuIntervalR k) (e : NaEdit)
-      → planText (joinedPlan isCertain (planLocation s k (anyLocation k l)) (naRow s isShortest e))
-      ≡ mapO (naWords isShortest k (both (locationContent s k l) (muOf isCertain (naEditContent s e)))) (bothO both (locationCanon k .canon (locationContent s k l)) (mapO (muOf isCertain) (canonNaEdit nucleotide (naEditContent s e))))
-  body-text t c k l e =
+  body-text : (w : Wording) (isCertain : Bool) (k : Kind) (l : MuIntervalR k) (e : NaEdit)
+      → planText (joinedPlan isCertain (planLocation s k (anyLocation k l)) (naRow s w e))
+      ≡ mapO (printNaBody k) (bothO both (locationCanon k .canon (locationContent s k l)) (mapO (muOf isCertain) (wordedNaEdit nucleotide w (naEditContent s e))))
+  body-text w c k l e =
       let o = locationCanon k .canon (locationContent s k l) in
-      let u = canonNaEdit nucleotide (naEditContent s e) in
-      joined-text (printLocation k) (editWords t (naEditContent s e)) c (planLocation s k (anyLocation k l)) (naRow s t e) o u (L.planned-record s k l) (row-text t e)
-      ∙ words-are t c k (locationContent s k l) (naEditContent s e) o u
+      let u = wordedNaEdit nucleotide w (naEditContent s e) in
+      joined-text (printLocation k) printNaEdit c (planLocation s k (anyLocation k l)) (naRow s w e) o u (L.planned-record s k l) (row-text w e) ∙ body-is c k o u
 
-  -- what is planned is the canonical text, or that without the reference; and nothing where there is none
-  pub planned-na : (isShortest : Bool) (k : Kind) (l : MuIntervalR k) (e : MuNaEdit)
-      → planText (planNaBody s isShortest k (anyLocation k l) e) ≡ mapO (naWords isShortest k (both (locationContent s k l) (muNaEditContent s e))) (naBodyCanon nucleotide nucleotides k .canon (both (locationContent s k l) (muNaEditContent s e)))
-  planned-na t k l (MuNa.Certain e) = body-text t true k l e
-  planned-na t k l (MuNa.Uncertain e) = body-text t false k l e
+  -- what is planned is the canonical text of the changed body; and nothing where the body as it came has none
+  pub planned-na : (w : Wording) (k : Kind) (l : MuIntervalR k) (e : MuNaEdit)
+      → planText (planNaBody s w k (anyLocation k l) e) ≡ mapO (printNaBody k) (wordedNaBody nucleotide nucleotides w k (both (locationContent s k l) (muNaEditContent s e)))
+  planned-na w k l (MuNa.Certain e) =
+      let v = naEditContent s e in
+      rw (beside both certain (locationCanon k .canon (locationContent s k l)) (canonNaEdit nucleotide v) (canonNaEdit nucleotide (changedNaEdit w v))) (body-text w true k l e)
+  planned-na w k l (MuNa.Uncertain e) =
+      let v = naEditContent s e in
+      rw (beside both uncertain (locationCanon k .canon (locationContent s k l)) (canonNaEdit nucleotide v) (canonNaEdit nucleotide (changedNaEdit w v))) (body-text w false k l e)

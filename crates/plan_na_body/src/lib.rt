@@ -5,6 +5,7 @@ use plan_location::PlacePlan;
 use record::Kind;
 use record::MuNaEdit;
 use record::NaEdit;
+use record::Wording;
 use rows::RowPlan;
 ghost use mathlib.Core.Path.{_≡_};
 ghost use Rattle.alphabet.specs.Cells.{IsTable};
@@ -33,19 +34,21 @@ fn joined(certain: bool, place: PlacePlan, row: RowPlan) -> BodyPlan
     })
 }
 
-// Shortest, or without the reference; an edit that has no text has none without the reference either.
-fn na_row(table: &[u8; 256], source: &[u8], shortest: bool, e: NaEdit) -> RowPlan
+// An edit that has no text has none in any wording.
+fn na_row(table: &[u8; 256], source: &[u8], wording: Wording, e: NaEdit) -> RowPlan
     requires { ⌜ IsTable (now table) ⌝ }
-    ensures { λ r. ⌜ r ≡ naRow (now (source .entry)) shortest e ⌝ }
+    ensures { λ r. ⌜ r ≡ naRow (now (source .entry)) wording e ⌝ }
 {
     let planned = plan_na_edit::plan_na_edit(table, source, e);
-    if shortest {
-        return planned;
-    }
-    let row = plan_no_ref::no_ref(source, e);
-    match planned {
-        RowPlan::NoText => RowPlan::NoText,
-        RowPlan::Text(_) => RowPlan::Text(row),
+    match wording {
+        Wording::Shortest => planned,
+        Wording::NoRef => {
+            let row = plan_no_ref::no_ref(source, e);
+            match planned {
+                RowPlan::NoText => RowPlan::NoText,
+                RowPlan::Text(_) => RowPlan::Text(row),
+            }
+        }
     }
 }
 
@@ -70,15 +73,15 @@ fn edit_of(e: MuNaEdit) -> NaEdit
 pub fn plan_na_body(
     table: &[u8; 256],
     source: &[u8],
-    shortest: bool,
+    wording: Wording,
     kind: Kind,
     l: Location,
     e: MuNaEdit,
 ) -> BodyPlan
     requires { ⌜ IsTable (now table) ⌝ }
-    ensures { λ r. ⌜ r ≡ planNaBody (now (source .entry)) shortest kind l e ⌝ }
+    ensures { λ r. ⌜ r ≡ planNaBody (now (source .entry)) wording kind l e ⌝ }
 {
     let place = plan_location::plan_location(table, source, kind, l);
-    let row = na_row(table, source, shortest, edit_of(e));
+    let row = na_row(table, source, wording, edit_of(e));
     joined(is_certain(e), place, row)
 }

@@ -3,7 +3,7 @@ use Prim.Native.Nat.{ℕ}
 use Prim.Native.Char.{code}
 use mathlib.Core.Path.{_≡_, ap}
 use mathlib.Core.List.{List}
-use mathlib.Core.Bool.{Bool, cond}
+use mathlib.Core.Bool.{cond}
 use Rattle.record.specs.declared.Span.{Span}
 use Rattle.record.specs.declared.Part.{Part}
 use Rattle.record.specs.declared.Part.the-variants.{Absent, Present}
@@ -13,6 +13,7 @@ use Rattle.record.specs.declared.Header.{Header}
 use Rattle.record.specs.declared.Body.{Body}
 use Rattle.record.specs.declared.Body.the-variants as Bo
 use Rattle.record.specs.declared.HgvsVariant.{HgvsVariant}
+use Rattle.record.specs.declared.Wording.{Wording}
 use Rattle.grammar.specs.Contents.{headerContent}
 use Rattle.headers.specs.Canonical.{canonHeader}
 use Rattle.any_body.specs.declared.AnyBody.{AnyBody}
@@ -49,9 +50,9 @@ abbrev pub draftedPlan : Heading → BodyPlan → TextPlan
 draftedPlan h Bodies.NoText = NoText
 draftedPlan h (Bodies.Text b) = Text (record { heading = h; body = b })
 
-module _ (s : List ℕ) (isShortest : Bool) where
+module _ (s : List ℕ) (w : Wording) where
   abbrev pub planAny : AnyBody → BodyPlan
-  planAny (Nucleotide k l e) = planNaBody s isShortest k l e
+  planAny (Nucleotide k l e) = planNaBody s w k l e
   planAny (Protein b) = planProteinBody s b
 
   abbrev pub planBody : Body → BodyPlan

@@ -1,9 +1,9 @@
--- What is planned for a record is the text that is wanted; and nothing where no text reads as the record.
+-- What is planned for a record is the text that is wanted, the canonical text of its changed content; and nothing where no text reads as the record.
 use Prim.Native.Nat.{ℕ, _≤_}
-use mathlib.Core.Path.{_≡_, refl, sym}
+use mathlib.Core.Path.{_≡_, refl, sym, ap}
 use mathlib.Core.List.{List, _++_, append-nil, append-assoc}
 use mathlib.Core.Option.{Option, none, some}
-use mathlib.Core.Bool.{Bool, true, cond}
+use mathlib.Core.Bool.{true, cond}
 use lib.ListN.{length}
 use Rattle.texts.specs.Ascii.{ascii}
 use Rattle.texts.specs.Tests.{none-some}
@@ -14,21 +14,25 @@ use Rattle.record.specs.declared.Kind.{Kind}
 use Rattle.record.specs.declared.Kind.the-variants.{Cds, Genome, Mt, Tx, Prot, Rna}
 use Rattle.record.specs.declared.Body as Declared
 use Rattle.record.specs.declared.Body.the-variants as Bo
+use Rattle.record.specs.declared.ProtLocEdit.{ProtLocEdit}
 use Rattle.record.specs.declared.HgvsVariant.{HgvsVariant}
+use Rattle.record.specs.declared.Wording.{Wording}
+use Rattle.record.specs.declared.Wording.the-variants.{Shortest, NoRef}
 use Rattle.grammar.specs.Spans.{part, optionalPart}
 use Rattle.grammar.specs.Shapes.{Both.both}
 use Rattle.grammar.specs.Header.{Header, printGene, printHeader, printKind}
-use Rattle.grammar.specs.Bodies.{Body}
+use Rattle.grammar.specs.Bodies.{Body, printBody, printProteinBody}
 use Rattle.grammar.specs.Texts.{Text, Text.text, print, allLetters}
-use Rattle.grammar.specs.Values.{HeaderV, BodyV, Value, Value.value}
+use Rattle.grammar.specs.Values.{HeaderV, BodyV, Value.value}
 use Rattle.grammar.specs.Contents.{locationContent, muNaEditContent, protBodyContent, bodyContent, headerContent, content, spansInside}
-use Rattle.lang.specs.Canon.{mapO}
+use Rattle.lang.specs.Canon.{mapO, map-some, bothO, if-same}
 use Rattle.na_edits.specs.Alphabet.{alphabets}
 use Rattle.headers.specs.Canonical.{canonHeader}
 use Rattle.promise.specs.Outcome.{limit}
-use Rattle.promise.specs.Writing.{ReadsAsValue, Sound, Unsound}
-use Rattle.canon.specs.TextCanon.{canonBody, canonText, text-some, text-none}
-use Rattle.canon.specs.Wording.{bodyWords, Wanted, words-wanted}
+use Rattle.promise.specs.Writing.{Sound, Unsound}
+use Rattle.canon.specs.ProteinBodyCanon.{canonProteinBody}
+use Rattle.canon.specs.TextCanon.{text-some}
+use Rattle.canon.specs.Wording.{Wanted, wordedBody, wordedText, text-parts, worded-some, worded-none}
 use Rattle.emit_piece.specs.Laws.{no-part}
 use Rattle.draft.specs.declared.Heading.{Heading}
 use Rattle.draft.specs.declared.Draft.{Draft}
@@ -36,21 +40,17 @@ use Rattle.draft.specs.Texts.{headingText, bodyText, draftText}
 use Rattle.plan_header.specs.HeaderText.{isSome, header-text}
 use Rattle.plan_na_body.specs.declared.BodyPlan.{BodyPlan}
 use Rattle.plan_na_body.specs.declared.BodyPlan.the-variants as Bodies
-use Rattle.plan_na_body.specs.Planned.{planText, planned-na}
+use Rattle.plan_na_body.specs.Planned as BodyPlans
+use Rattle.plan_na_body.specs.Planned.{planned-na}
+use Rattle.plan_protein_body.specs.Plan.{planProteinBody}
 use Rattle.plan_protein_body.specs.Planned.{planned-protein}
 use Rattle.plan_text.specs.declared.TextPlan.{TextPlan}
 use Rattle.plan_text.specs.declared.TextPlan.the-variants.{NoText, Text as Planned}
 use Rattle.plan_text.specs.Plan.{kindOf, headingWith, headingOf, draftedPlan, planBody, textPlan}
 
--- what a plan is to be: a text that reads as the value, in the words that are wanted; or none, where none reads as it
-record HasText (isShortest : Bool) (v : Value) (t : List ℕ) : Type 0 where
-  text : List ℕ
-  reads : ReadsAsValue allLetters text v
-  wanted : Wanted allLetters isShortest v t
-
-abbrev Right : List ℕ → Bool → Value → TextPlan → Type 0
-Right s isShortest v NoText = (t : List ℕ) → ReadsAsValue allLetters t v → ⊥
-Right s isShortest v (Planned d) = HasText isShortest v (draftText s d)
+unprinted : (o : Option Text) → none ≡ mapO print o → o ≡ none
+unprinted none e = refl
+unprinted (some x) e = absurd (none-some e)
 
 module _ (s : List ℕ) where
   -- ---- the heading
@@ -79,49 +79,56 @@ module _ (s : List ℕ) where
   value-is h (Bo.Prot b) = refl
   value-is h (Bo.Rna b) = refl
 
-  module _ (isShortest : Bool) where
-    planned-body : (b : Declared.Body) → planText s (planBody s isShortest b) ≡ mapO (bodyWords isShortest (kindOf b) (bodyValue b)) (canonBody allLetters alphabets (kindOf b) (bodyValue b))
-    planned-body (Bo.Cds b) = planned-na s isShortest Cds (b .loc) (b .edit)
-    planned-body (Bo.Genome b) = planned-na s isShortest Genome (b .loc) (b .edit)
-    planned-body (Bo.Mt b) = planned-na s isShortest Mt (b .loc) (b .edit)
-    planned-body (Bo.Tx b) = planned-na s isShortest Tx (b .loc) (b .edit)
-    planned-body (Bo.Prot b) = planned-protein s b
-    planned-body (Bo.Rna b) = planned-na s isShortest Rna (b .loc) (b .edit)
+  protein-worded : (w : Wording) (b : ProtLocEdit) → BodyPlans.planText s (planProteinBody s b) ≡ mapO printProteinBody (wordedBody allLetters alphabets w Prot (protBodyContent s b))
+  protein-worded Shortest b = rw (if-same (canonProteinBody (protBodyContent s b))) (planned-protein s b)
+  protein-worded NoRef b = rw (if-same (canonProteinBody (protBodyContent s b))) (planned-protein s b)
 
-    -- ---- both
-    module _ (h : HeaderV) (k : Kind) (v : BodyV k) (a : List ℕ) (gene : Option (List ℕ)) where
-      no-text : canonText allLetters alphabets (value h k v) ≡ none → Right s isShortest (value h k v) NoText
-      no-text = text-none allLetters alphabets (value h k v)
+  module _ (w : Wording) where
+    planned-body : (b : Declared.Body) → BodyPlans.planText s (planBody s w b) ≡ mapO (printBody (kindOf b)) (wordedBody allLetters alphabets w (kindOf b) (bodyValue b))
+    planned-body (Bo.Cds b) = planned-na s w Cds (b .loc) (b .edit)
+    planned-body (Bo.Genome b) = planned-na s w Genome (b .loc) (b .edit)
+    planned-body (Bo.Mt b) = planned-na s w Mt (b .loc) (b .edit)
+    planned-body (Bo.Tx b) = planned-na s w Tx (b .loc) (b .edit)
+    planned-body (Bo.Prot b) = protein-worded w b
+    planned-body (Bo.Rna b) = planned-na s w Rna (b .loc) (b .edit)
 
-      whole : (heading : Heading) (o : Option Header) (p : BodyPlan) (u : Option (Body k)) → canonHeader h ≡ o → canonBody allLetters alphabets k v ≡ u
-          → mapO printHeader o ≡ cond (isSome o) (some (a ++ printGene gene)) none → headingText s heading ≡ (a ++ printGene gene) ++ printKind k → planText s p ≡ mapO (bodyWords isShortest k v) u
-          → Right s isShortest (value h k v) (cond (isSome o) (draftedPlan heading p) NoText)
-      unfolding draftText
-      whole heading none p u e f g i j = no-text (rw e)
-      whole heading (some x) Bodies.NoText none e f g i j = no-text (rw (e, f))
-      whole heading (some x) Bodies.NoText (some y) e f g i j = absurd (none-some j)
-      whole heading (some x) (Bodies.Text b) none e f g i j = absurd (none-some (sym j))
-      whole heading (some x) (Bodies.Text b) (some y) e f g i j =
-          let m : printHeader x ≡ a ++ printGene gene = cc in
-          let n : bodyText s b ≡ bodyWords isShortest k v y = cc in
-          let z : headingText s heading ++ bodyText s b ≡ printHeader x ++ (printKind k ++ bodyWords isShortest k v y) = rw (i, n, m) (append-assoc (a ++ printGene gene) (printKind k) (bodyWords isShortest k v y)) in
-          let best = text-some allLetters alphabets (value h k v) (text x k y) (rw (e, f)) in
-          record { text = print (text x k y); reads = best .reads; wanted = rw z (words-wanted allLetters alphabets h x e isShortest k v y f) }
+  -- ---- both
+  abbrev planText : TextPlan → Option (List ℕ)
+  planText NoText = none
+  planText (Planned d) = some (draftText s d)
 
-    planned : (v : HgvsVariant) → Right s isShortest (content s v) (textPlan s isShortest v)
+  module _ (k : Kind) (a : List ℕ) (gene : Option (List ℕ)) (heading : Heading) where
+    whole : (o : Option Header) (p : BodyPlan) (u : Option (Body k)) → mapO printHeader o ≡ cond (isSome o) (some (a ++ printGene gene)) none → headingText s heading ≡ (a ++ printGene gene) ++ printKind k → BodyPlans.planText s p ≡ mapO (printBody k) u
+        → planText (cond (isSome o) (draftedPlan heading p) NoText) ≡ mapO print (bothO (λ x y. text x k y) o u)
+    unfolding draftText
+    whole none p u g i j = refl
+    whole (some x) Bodies.NoText none g i j = refl
+    whole (some x) Bodies.NoText (some y) g i j = absurd (none-some j)
+    whole (some x) (Bodies.Text b) none g i j = absurd (none-some (sym j))
+    whole (some x) (Bodies.Text b) (some y) g i j =
+        let m : printHeader x ≡ a ++ printGene gene = cc in
+        let n : bodyText s b ≡ printBody k y = cc in
+        ap some (rw (i, n, m) (append-assoc (a ++ printGene gene) (printKind k) (printBody k y)))
+
+  module _ (w : Wording) (v : HgvsVariant) where
+    planned : planText (textPlan s w v) ≡ mapO print (wordedText allLetters alphabets w (content s v))
     unfolding textPlan
-    planned v =
+    planned =
         let h = headerContent s (v .header) in
         let k = kindOf (v .body) in
-        rw (value-is h (v .body))
-        (whole h k (bodyValue (v .body)) (part s (v .header .accession)) (optionalPart s (v .header .«gene_symbol»)) (headingOf (v .header) k) (canonHeader h) (planBody s isShortest (v .body)) (canonBody allLetters alphabets k (bodyValue (v .body))) refl refl (header-text s (v .header)) (gene-text (part s (v .header .accession)) (printKind k) (v .header .«gene_symbol») k refl (v .header .accession) refl) (planned-body (v .body)))
+        let accession = part s (v .header .accession) in
+        let gene = optionalPart s (v .header .«gene_symbol») in
+        rw (value-is h (v .body), text-parts allLetters alphabets w h k (bodyValue (v .body)))
+        (whole k accession gene (headingOf (v .header) k) (canonHeader h) (planBody s w (v .body)) (wordedBody allLetters alphabets w k (bodyValue (v .body))) (header-text s (v .header)) (gene-text accession (printKind k) (v .header .«gene_symbol») k refl (v .header .accession) refl) (planned-body w (v .body)))
 
     -- the checks on source and record
-    module _ (v : HgvsVariant) (short : length s ≤ limit) (isIn : spansInside (length s) v ≡ true) where
-      pub unsound-plan : textPlan s isShortest v ≡ NoText → Unsound allLetters s v 5
-      unsound-plan e = Unsound.noText short isIn (rw e at (planned v))
+    module _ (short : length s ≤ limit) (isIn : spansInside (length s) v ≡ true) where
+      pub unsound-plan : textPlan s w v ≡ NoText → Unsound allLetters s v 5
+      unsound-plan e = Unsound.noText short isIn (worded-none allLetters alphabets w (content s v) (unprinted (wordedText allLetters alphabets w (content s v)) (rw e at planned)))
 
-      pub sound-plan : (d : Draft) → textPlan s isShortest v ≡ Planned d → Sound allLetters s v × Wanted allLetters isShortest (content s v) (draftText s d)
+      pub sound-plan : (d : Draft) → textPlan s w v ≡ Planned d → Sound allLetters s v × Wanted allLetters w (content s v) (draftText s d)
       sound-plan d e =
-          let h : HasText isShortest (content s v) (draftText s d) = rw e at (planned v) in
-          (record { short = short; inside = isIn; text = h .text; reads = h .reads }, h .wanted)
+          let m = map-some print (wordedText allLetters alphabets w (content s v)) (draftText s d) (sym (rw e at planned)) in
+          let f = worded-some allLetters alphabets w (content s v) (m .0) (m .1 .0) in
+          let best = text-some allLetters alphabets (content s v) (f .0) (f .1 .0) in
+          (record { short = short; inside = isIn; text = print (f .0); reads = best .reads }, rw (m .1 .1) at (f .1 .1))

@@ -9,6 +9,7 @@ use record::Header;
 use record::HgvsVariant;
 use record::Kind;
 use record::Part;
+use record::Wording;
 ghost use mathlib.Core.Path.{_≡_};
 ghost use Rattle.alphabet.specs.Cells.{IsTable};
 ghost use Rattle.plan_text.specs.Plan.{kindOf, planBody, headingOf, draftedPlan, textPlan};
@@ -56,13 +57,13 @@ fn heading(h: Header, kind: Kind) -> Heading
     }
 }
 
-fn plan_body(table: &[u8; 256], source: &[u8], shortest: bool, b: Body) -> BodyPlan
+fn plan_body(table: &[u8; 256], source: &[u8], wording: Wording, b: Body) -> BodyPlan
     requires { ⌜ IsTable (now table) ⌝ }
-    ensures { λ r. ⌜ r ≡ planBody (now (source .entry)) shortest b ⌝ }
+    ensures { λ r. ⌜ r ≡ planBody (now (source .entry)) wording b ⌝ }
 {
     match any_body::any_body(b) {
         AnyBody::Nucleotide(kind, l, edit) => {
-            plan_na_body::plan_na_body(table, source, shortest, kind, l, edit)
+            plan_na_body::plan_na_body(table, source, wording, kind, l, edit)
         }
         AnyBody::Protein(x) => plan_protein_body::plan_protein_body(table, source, x),
     }
@@ -77,9 +78,9 @@ fn drafted(heading: Heading, planned: BodyPlan) -> TextPlan
     }
 }
 
-// The shortest text, or that without the reference; a record that has no text has none without the reference either.
-pub fn plan_text(source: &[u8], shortest: bool, v: HgvsVariant) -> TextPlan
-    ensures { λ r. ⌜ r ≡ textPlan (now (source .entry)) shortest v ⌝ }
+// The text that the wording asks for; a record that has no text has none in any wording.
+pub fn plan_text(source: &[u8], wording: Wording, v: HgvsVariant) -> TextPlan
+    ensures { λ r. ⌜ r ≡ textPlan (now (source .entry)) wording v ⌝ }
 {
     let table = alphabet::classes();
     let header = v.header;
@@ -89,6 +90,6 @@ pub fn plan_text(source: &[u8], shortest: bool, v: HgvsVariant) -> TextPlan
     }
     drafted(
         heading(header, kind_of(body)),
-        plan_body(&table, source, shortest, body),
+        plan_body(&table, source, wording, body),
     )
 }

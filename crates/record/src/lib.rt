@@ -224,6 +224,12 @@ pub struct HgvsVariant {
     pub body: Body,
 }
 
+// Which text of a record is to be written: its shortest, or the one without the reference.
+pub enum Wording {
+    Shortest,
+    NoRef,
+}
+
 // What reading, writing and measuring answer: a case for each row of document 01's table of numbers that the operation gives.
 
 pub enum ReadAnswer {

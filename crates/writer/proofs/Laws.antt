@@ -9,6 +9,7 @@ use borrow.Author.Tests.{leb-true, leb-false}
 use Rattle.record.specs.declared.WriteAnswer.{WriteAnswer}
 use Rattle.record.specs.declared.WriteAnswer.the-variants.{TooLong, BadSpan, NoText}
 use Rattle.record.specs.declared.HgvsVariant.{HgvsVariant}
+use Rattle.record.specs.declared.Wording.{Wording}
 use Rattle.grammar.specs.Texts.{allLetters}
 use Rattle.grammar.specs.Contents.{content, spansInside}
 use Rattle.promise.specs.Outcome.{writeOutcome, limit}
@@ -20,9 +21,9 @@ use Rattle.plan_text.specs.declared.TextPlan.the-variants as Plans
 use Rattle.plan_text.specs.Plan.{textPlan}
 use Rattle.plan_text.specs.Planned.{sound-plan, unsound-plan}
 
-module _ (source : List ℕ) (v : HgvsVariant) (output : List ℕ) (isShortest : Bool) where
+module _ (source : List ℕ) (v : HgvsVariant) (output : List ℕ) (w : Wording) where
   abbrev pub Answers : WriteAnswer → List ℕ → Type 0
-  Answers a o = Writes allLetters (Wanted allLetters isShortest) source v output (writeOutcome a) o
+  Answers a o = Writes allLetters (Wanted allLetters w) source v output (writeOutcome a) o
 
   pub too-long : limit < length source → Answers TooLong output
   too-long h = Writes.unsound 1 (Unsound.tooLong h)
@@ -30,11 +31,11 @@ module _ (source : List ℕ) (v : HgvsVariant) (output : List ℕ) (isShortest :
   pub bad-span : length source ≤ limit → spansInside (length source) v ≡ false → Answers BadSpan output
   bad-span h i = Writes.unsound 4 (Unsound.badSpan h i)
 
-  pub no-text : length source ≤ limit → spansInside (length source) v ≡ true → textPlan source isShortest v ≡ Plans.NoText → Answers NoText output
-  no-text h i e = Writes.unsound 5 (unsound-plan source isShortest v h i e)
+  pub no-text : length source ≤ limit → spansInside (length source) v ≡ true → textPlan source w v ≡ Plans.NoText → Answers NoText output
+  no-text h i e = Writes.unsound 5 (unsound-plan source w v h i e)
 
   -- of a text that is wanted
-  module _ (sound : Sound allLetters source v) (t : List ℕ) (wanted : Wanted allLetters isShortest (content source v) t) where
+  module _ (sound : Sound allLetters source v) (t : List ℕ) (wanted : Wanted allLetters w (content source v) t) where
     answers : Answers (answered t output) (left t output)
     unfolding answered left
     answers = go (leb (length t) limit) (leb (length t) (length output)) refl refl
@@ -44,7 +45,7 @@ module _ (source : List ℕ) (v : HgvsVariant) (output : List ℕ) (isShortest :
         go true false e f = rw (e, f, answered, left) (Writes.noRoom sound t wanted (leb-true (length t) limit e) (leb-false (length t) (length output) f))
         go true true e f = rw (e, f, answered, left) (Writes.written sound t wanted (leb-true (length t) limit e) (leb-true (length t) (length output) f))
 
-  pub drafted : length source ≤ limit → spansInside (length source) v ≡ true → (d : Draft) → textPlan source isShortest v ≡ Plans.Text d → (a : WriteAnswer) (o : List ℕ) → a ≡ answered (draftText source d) output → o ≡ left (draftText source d) output → Answers a o
+  pub drafted : length source ≤ limit → spansInside (length source) v ≡ true → (d : Draft) → textPlan source w v ≡ Plans.Text d → (a : WriteAnswer) (o : List ℕ) → a ≡ answered (draftText source d) output → o ≡ left (draftText source d) output → Answers a o
   drafted h i d e a o p q =
-      let k = sound-plan source isShortest v h i d e in
+      let k = sound-plan source w v h i d e in
       rw (p, q) (answers (k .0) (draftText source d) (k .1))

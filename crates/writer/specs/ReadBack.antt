@@ -7,6 +7,7 @@ use lib.ListN.{length, take, drop}
 use lib.Seq.{take-append-seam}
 use Rattle.texts.specs.Best.{best-length}
 use Rattle.record.specs.declared.HgvsVariant.{HgvsVariant}
+use Rattle.record.specs.declared.Wording.the-variants.{NoRef}
 use Rattle.grammar.specs.Texts.{Text, allLetters}
 use Rattle.grammar.specs.Values.{Value}
 use Rattle.grammar.specs.Records.{recordAt}
@@ -19,7 +20,8 @@ use Rattle.promise.specs.Writing.{Writes, ToWrite, ReadsAsValue, Unsound}
 use Rattle.promise.specs.NoRef.{NoRefText}
 use Rattle.promise.specs.Unique.{one-shortest}
 use Rattle.canon.specs.TextCanon.{canonText, text-some, text-none}
-use Rattle.canon.specs.NoRefCanon.{noRefValue, no-ref-some, no-ref-only}
+use Rattle.canon.specs.Changes.{changed}
+use Rattle.canon.specs.NoRefCanon.{no-ref-some, no-ref-only}
 
 -- a text that reads as a value, read
 pub record ReadBack (t : List ℕ) (v : Value) : Type 0 where
@@ -37,16 +39,16 @@ module _ (source : List ℕ) (v : HgvsVariant) (output : List ℕ) where
   written-back n o (Writes.written s t w l k) = rw (take-append-seam t (drop (length t) output)) (read-back t (content source v) l (w .reads))
 
   -- without the reference, as the changed value
-  pub noref-back : (n : ℕ) (o : List ℕ) → Writes allLetters (NoRefText allLetters) source v output (given n) o → ReadBack (take n o) (noRefValue (content source v))
+  pub noref-back : (n : ℕ) (o : List ℕ) → Writes allLetters (NoRefText allLetters) source v output (given n) o → ReadBack (take n o) (changed NoRef (content source v))
   noref-back n o (Writes.written s t w l k) = rw (take-append-seam t (drop (length t) output)) (go (canonText allLetters alphabets (content source v)) refl)
     where
-      go : (c : Option Text) → canonText allLetters alphabets (content source v) ≡ c → ReadBack t (noRefValue (content source v))
+      go : (c : Option Text) → canonText allLetters alphabets (content source v) ≡ c → ReadBack t (changed NoRef (content source v))
       go none e = absurd (text-none allLetters alphabets (content source v) e (s .text) (s .reads))
       go (some x) e =
           let f = no-ref-some allLetters alphabets (content source v) x e in
-          let b = text-some allLetters alphabets (noRefValue (content source v)) (f .tree) (f .found) in
+          let b = text-some allLetters alphabets (changed NoRef (content source v)) (f .tree) (f .found) in
           let p = no-ref-only allLetters alphabets (content source v) x (f .tree) e (f .found) t w in
-          read-back t (noRefValue (content source v)) l (rw p (b .reads))
+          read-back t (changed NoRef (content source v)) l (rw p (b .reads))
 
 -- ---- an accepted text
 module _ (t : List ℕ) (v : HgvsVariant) (r : Reads allLetters t (given v)) where

@@ -1,6 +1,7 @@
 // Writing a record into lent room: its shortest text, or the one without the reference.
 use plan_text::TextPlan;
 use record::HgvsVariant;
+use record::Wording;
 use record::WriteAnswer;
 ghost use Rattle.grammar.specs.Texts.{allLetters};
 ghost use Rattle.promise.specs.Outcome.{writeOutcome};
@@ -8,8 +9,8 @@ ghost use Rattle.promise.specs.Writing.{Writes, ToWrite};
 ghost use Rattle.promise.specs.NoRef.{NoRefText};
 ghost use Rattle.canon.specs.Wording.{Wanted};
 
-fn write_wanted(source: &[u8], v: HgvsVariant, output: &mut [u8], shortest: bool) -> WriteAnswer
-    ensures { λ r. ⌜ Writes allLetters (Wanted allLetters shortest) (now (source .entry)) v (now (output .entry)) (writeOutcome r) (now (output .exit)) ⌝ }
+fn write_wanted(source: &[u8], v: HgvsVariant, output: &mut [u8], wording: Wording) -> WriteAnswer
+    ensures { λ r. ⌜ Writes allLetters (Wanted allLetters wording) (now (source .entry)) v (now (output .entry)) (writeOutcome r) (now (output .exit)) ⌝ }
 {
     if 4096 < source.len() {
         return WriteAnswer::TooLong;
@@ -17,7 +18,7 @@ fn write_wanted(source: &[u8], v: HgvsVariant, output: &mut [u8], shortest: bool
     if !record_inside::spans_inside(source.len(), v) {
         return WriteAnswer::BadSpan;
     }
-    let TextPlan::Text(d) = plan_text::plan_text(source, shortest, v) else {
+    let TextPlan::Text(d) = plan_text::plan_text(source, wording, v) else {
         return WriteAnswer::NoText;
     };
     draft::write_draft(source, d, output)
@@ -27,12 +28,12 @@ fn write_wanted(source: &[u8], v: HgvsVariant, output: &mut [u8], shortest: bool
 pub fn write(source: &[u8], v: HgvsVariant, output: &mut [u8]) -> WriteAnswer
     ensures { λ r. ⌜ Writes allLetters (ToWrite allLetters) (now (source .entry)) v (now (output .entry)) (writeOutcome r) (now (output .exit)) ⌝ }
 {
-    write_wanted(source, v, output, true)
+    write_wanted(source, v, output, Wording::Shortest)
 }
 
 // Header, location and brackets as in shortest writing; the edit without the reference.
 pub fn write_noref(source: &[u8], v: HgvsVariant, output: &mut [u8]) -> WriteAnswer
     ensures { λ r. ⌜ Writes allLetters (NoRefText allLetters) (now (source .entry)) v (now (output .entry)) (writeOutcome r) (now (output .exit)) ⌝ }
 {
-    write_wanted(source, v, output, false)
+    write_wanted(source, v, output, Wording::NoRef)
 }

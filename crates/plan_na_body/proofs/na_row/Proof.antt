@@ -7,40 +7,49 @@ use Rattle.plan_na_body.proofs.na_row.Tie as tie
 plan-na-edit-requires : tie.Need-plan-na-edit-requires
 plan-na-edit-requires c κs = search needs
 
-returns : tie.Need-returns
-unfolding naRow
-returns c = rw (c .if1 .taken, naRow) (c .before .plan-na-edit .ensures)
-
-no-ref-requires : tie.Need-no-ref-requires
-no-ref-requires c κs = search needs
-
 enum-told : tie.Need-enum-told
 enum-told c = search needs
 
 enum-told-2 : tie.Need-enum-told-2
 enum-told-2 c = search needs
 
+no-ref-requires : tie.Need-no-ref-requires
+no-ref-requires c κs = search needs
+
+enum-told-3 : tie.Need-enum-told-3
+enum-told-3 c = search needs
+
+enum-told-4 : tie.Need-enum-told-4
+enum-told-4 c = search needs
+
+returns : tie.Need-returns
+unfolding naRow
+returns c = rw (c .enum-told .given .1, naRow) (c .before .before .plan-na-edit .ensures)
+
 returns-2 : tie.Need-returns-2
 unfolding naRow
 returns-2 c =
-    let e = c .before .before .before in
-    rw (e .if1 .left, naRow, sym (e .before .plan-na-edit .ensures) ∙ c .enum-told .given .1)
+    let n = c .before .before in
+    let w = n .before in
+    rw (w .enum-told2 .given .1, naRow, sym (w .before .before .plan-na-edit .ensures) ∙ c .enum-told3 .given .1)
 
 returns-3 : tie.Need-returns-3
 unfolding naRow
 returns-3 c =
     let n = c .before .before in
-    let e = n .before in
-    rw (e .if1 .left, naRow, sym (e .before .plan-na-edit .ensures) ∙ c .enum-told2 .given .1, n .no-ref .ensures)
+    let w = n .before in
+    rw (w .enum-told2 .given .1, naRow, sym (w .before .before .plan-na-edit .ensures) ∙ c .enum-told4 .given .1, n .no-ref .ensures)
 
 pub na-row-spec : {M : Type 1} → statement M
 na-row-spec =
     tie.close
     (tie.spec
     plan-na-edit-requires
-    returns
-    no-ref-requires
     enum-told
     enum-told-2
+    no-ref-requires
+    enum-told-3
+    enum-told-4
+    returns
     returns-2
     returns-3)

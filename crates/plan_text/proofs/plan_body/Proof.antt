@@ -23,7 +23,7 @@ returns : tie.Need-returns
 returns c = c .plan-na-body .ensures ∙ plan-any _ _ (c .before .before .before .before .before .before .args .b) _ (sym (c .before .before .kind .given .1) ∙ c .before .before .before .before .any-body .ensures)
 
 returns-2 : tie.Need-returns-2
-returns-2 c = c .plan-protein-body .ensures ∙ plan-any _ (c .before .before .before .before .before .before .args .shortest) (c .before .before .before .before .before .before .args .b) _ (sym (c .before .before .x .given .1) ∙ c .before .before .before .before .any-body .ensures)
+returns-2 c = c .plan-protein-body .ensures ∙ plan-any _ (c .before .before .before .before .before .before .args .wording) (c .before .before .before .before .before .before .args .b) _ (sym (c .before .before .x .given .1) ∙ c .before .before .before .before .any-body .ensures)
 
 pub plan-body-spec : {M : Type 1} → statement M
 plan-body-spec =

@@ -12,7 +12,7 @@ use Rattle.writer.proofs.write_wanted.Tie as tie
 returns : tie.Need-returns
 returns c =
     let a = c .before .before .before .args in
-    too-long (a .source .now) (a .v) (a .output .now) (a .shortest) (omega arith)
+    too-long (a .source .now) (a .v) (a .output .now) (a .wording) (omega arith)
 
 spans-inside-requires : tie.Need-spans-inside-requires
 spans-inside-requires c κs = search needs
@@ -21,7 +21,7 @@ returns-2 : tie.Need-returns-2
 returns-2 c =
     let a = c .before .before .before .before .before .args in
     let i : spansInside (length (a .source .now)) (a .v) ≡ false = sym (c .before .spans-inside .ensures) ∙ not-true _ (c .if2 .taken) in
-    bad-span (a .source .now) (a .v) (a .output .now) (a .shortest) (omega arith) i
+    bad-span (a .source .now) (a .v) (a .output .now) (a .wording) (omega arith) i
 
 plan-text-requires : tie.Need-plan-text-requires
 plan-text-requires c κs = search needs
@@ -37,7 +37,7 @@ returns-3 c =
     let a = c .before .before .before .before .before .before .before .before .args in
     let e = c .before .before .before in
     let i : spansInside (length (a .source .now)) (a .v) ≡ true = sym (e .before .spans-inside .ensures) ∙ not-false _ (e .if2 .left) in
-    no-text (a .source .now) (a .v) (a .output .now) (a .shortest) (omega arith) i (sym (c .before .before .plan-text .ensures) ∙ c .enum-told .given .1)
+    no-text (a .source .now) (a .v) (a .output .now) (a .wording) (omega arith) i (sym (c .before .before .plan-text .ensures) ∙ c .enum-told .given .1)
 
 write-draft-requires : tie.Need-write-draft-requires
 write-draft-requires c κs = search needs
@@ -52,7 +52,7 @@ returns-4 c =
     let e = c .before .before .before .before .before .before .before .before in
     let i : spansInside (length (a .source .now)) (a .v) ≡ true = sym (e .before .spans-inside .ensures) ∙ not-false _ (e .if2 .left) in
     let w = c .before .before .write-draft .ensures in
-    drafted (a .source .now) (a .v) (a .output .now) (a .shortest) (omega arith) i _ (sym (c .before .before .before .before .before .before .before .plan-text .ensures) ∙ d .d .given .1) _ _ (w .0) (w .1)
+    drafted (a .source .now) (a .v) (a .output .now) (a .wording) (omega arith) i _ (sym (c .before .before .before .before .before .before .before .plan-text .ensures) ∙ d .d .given .1) _ _ (w .0) (w .1)
 
 pub write-wanted-spec : {M : Type 1} → statement M
 write-wanted-spec =
