@@ -1,10 +1,10 @@
 // Lines of an input that comes in pieces: a piece is taken up to the end of a line, and a lent buffer holds the line so far.
 ghost use mathlib.Core.Path.{_≡_};
 ghost use mathlib.Core.Bool.{_||_};
-ghost use Prim.Native.Nat.{_-_, min};
+ghost use Prim.Native.Nat.{_+_, _-_, _≤_, min};
 ghost use lib.Dec.{ltb};
-ghost use lib.ListN.{length, take as firstOf};
-ghost use Rattle.texts.specs.Runs.{run};
+ghost use lib.ListN.{length, take as firstOf, drop as rest};
+ghost use Rattle.texts.specs.Runs.{every, run};
 ghost use Rattle.lent.specs.Put.{put};
 ghost use Rattle.lines.specs.Taking.{inLine, noLine, begun, taken, stored};
 
@@ -55,11 +55,40 @@ pub fn at_end(line: Line) -> bool
     already_or_less(line.long, 0, line.len)
 }
 
+// No LF is among the bytes. It does not stop at one, so that many bytes are compared at once.
+fn no_end(s: &[u8]) -> bool
+    ensures { λ r. ⌜ r ≡ every inLine (now (s .entry)) ⌝ }
+{
+    let mut none = true;
+    let mut j: usize = 0;
+    while j < s.len() {
+        if s[j] == LINE_END {
+            none = false;
+        }
+        j += 1;
+    }
+    none
+}
+
+// How many bytes the blocks of 16 have that stand before the one with the first LF.
+fn whole_blocks(piece: &[u8]) -> usize
+    ensures { λ r. ⌜ (r ≤ length (now (piece .entry))) × (run inLine (now (piece .entry)) ≡ r + run inLine (rest r (now (piece .entry)))) ⌝ }
+{
+    let mut i: usize = 0;
+    while 16 <= piece.len() - i {
+        if !no_end(&piece[i..i + 16]) {
+            return i;
+        }
+        i += 16;
+    }
+    i
+}
+
 // How many bytes stand before the first LF.
 fn before_end(piece: &[u8]) -> usize
     ensures { λ r. ⌜ r ≡ run inLine (now (piece .entry)) ⌝ }
 {
-    let mut i: usize = 0;
+    let mut i = whole_blocks(piece);
     while i < piece.len() {
         if piece[i] == LINE_END {
             return i;
