@@ -4,6 +4,7 @@ pub mod ProteinSound
 pub mod BodyLang
 pub mod WholeText
 pub mod Trees
+pub mod Outcomes
 pub mod Settled
 pub mod Computing
 pub mod Examples

@@ -14,7 +14,7 @@ use Rattle.grammar.specs.Shapes.{Mu.certain, Mu.uncertain, Both.both}
 use Rattle.grammar.specs.Bodies.{NaBody, ProteinBody, ProteinBody.met1, ProteinBody.bracketedMet1, ProteinBody.noProteinUncertain, ProteinBody.noProtein, ProteinBody.noChangeUncertain, ProteinBody.noChange, ProteinBody.unknown, ProteinBody.change, ProteinBody.bracketed, Body}
 use Rattle.grammar.specs.Texts.{Text, Text.text}
 use Rattle.grammar.specs.Numbers.{numbersAt}
-use Rattle.grammar.specs.NumberLaws.{allFit, allPlain}
+use Rattle.grammar.specs.NumberLaws.{isFaultless, allPlain}
 use Rattle.lang.specs.MuCanon.{settledMu}
 use Rattle.location.specs.Settled.{settledEnds, settledLocation}
 use Rattle.na_edits.specs.Alphabet.{Alphabet}
@@ -53,7 +53,7 @@ settledText (text h k b) = settledBody k b
 -- ---- of a text that is read
 abbrev settledTree : Option Text → Bool
 settledTree none = false
-settledTree (some x) = allFit (numbersAt 0 x) && (allPlain (numbersAt 0 x) && settledText x)
+settledTree (some x) = isFaultless (numbersAt 0 x) && (allPlain (numbersAt 0 x) && settledText x)
 
 -- no longer than any text that is read, all numbers fit and are plainly spelled, and the tree is settled
 unfoldable pub isSettled : (letters : Kind → ℕ → Bool) → ((k : Kind) → Alphabet (letters k)) → List ℕ → Bool
@@ -68,6 +68,6 @@ module _ (letters : Kind → ℕ → Bool) (al : (k : Kind) → Alphabet (letter
   unfolding isSettled
   unparsed-unsettled e = rw (e, and-false (leb (length s) limit))
 
-  pub parsed-settled : (x : Text) → length s ≤ limit → parseText letters al s ≡ some x → isSettled letters al s ≡ allFit (numbersAt 0 x) && (allPlain (numbersAt 0 x) && settledText x)
+  pub parsed-settled : (x : Text) → length s ≤ limit → parseText letters al s ≡ some x → isSettled letters al s ≡ isFaultless (numbersAt 0 x) && (allPlain (numbersAt 0 x) && settledText x)
   unfolding isSettled
   parsed-settled x h e = rw (le-leb (length s) limit h, e)

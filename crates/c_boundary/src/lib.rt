@@ -35,9 +35,8 @@ pub extern "C" fn saltwhistle_noref(text: &[u8], output: &mut [u8]) -> Answer
 pub extern "C" fn saltwhistle_width(text: &[u8]) -> Answer
     ensures { λ r. ⌜ Gauges (now (text .entry)) r ⌝ }
 {
-    let r = reader::read(text);
-    let ReadAnswer::Accepted(v) = r else {
-        return numbered::of_read(r);
-    };
-    numbered::of_width(measure::width(text, v))
+    match reader::read(text) {
+        ReadAnswer::Refused(why) => numbered::of_refusal(why),
+        ReadAnswer::Accepted(v) => numbered::of_width(measure::width(text, v)),
+    }
 }

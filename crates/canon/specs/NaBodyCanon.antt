@@ -1,14 +1,12 @@
 -- The canonical text of a nucleotide body: of its location, then of its edit.
 use Prim.Native.Nat.{ℕ, _+_}
-use mathlib.Core.Path.{_≡_}
-use mathlib.Core.Option.{none}
 use mathlib.Core.Bool.{Bool}
 use lib.ListN.{length}
 use Rattle.record.specs.declared.Kind.{Kind}
 use Rattle.grammar.specs.Shapes.{Both.both}
 use Rattle.grammar.specs.Bodies.{printLocation, NaBody}
-use Rattle.grammar.specs.Numbers.{misfit, endsNumbers, muNumbers, naEditNumbers, naBodyNumbers}
-use Rattle.grammar.specs.NumberLaws.{misfit-both, both-misfit}
+use Rattle.grammar.specs.Numbers.{Faultless, endsNumbers, muNumbers, naEditNumbers, naBodyNumbers}
+use Rattle.grammar.specs.NumberLaws.{faultless-both, both-faultless}
 use Rattle.lang.specs.Canon.{Canon}
 use Rattle.lang.specs.BothCanon.{both-canon}
 use Rattle.location.specs.Languages.{locationLang}
@@ -24,13 +22,13 @@ module _ (na : ℕ → Bool) (al : Alphabet na) (k : Kind) where
   naBodyCanon = both-canon (locationLang k) (muNaEditLang na al) (na-follows na al k) (locationCanon k) (muNaEditCanon na al)
 
   -- its fit is that of its numbers, wherever it stands
-  pub body-fits : (i : ℕ) (b : NaBody k) → naBodyCanon .Fits b → misfit (naBodyNumbers k i b) ≡ none
+  pub body-fits : (i : ℕ) (b : NaBody k) → naBodyCanon .Fits b → Faultless (naBodyNumbers k i b)
   body-fits i (both l e) f =
       let j = i + length (printLocation k l) in
-      both-misfit (muNumbers (endsNumbers k) i l) (muNumbers naEditNumbers j e) (fits-location k i l (f .0)) (mu-fits j e (f .1))
+      both-faultless (muNumbers (endsNumbers k) i l) (muNumbers naEditNumbers j e) (fits-location k i l (f .0)) (mu-fits j e (f .1))
 
-  pub fits-body : (i : ℕ) (b : NaBody k) → misfit (naBodyNumbers k i b) ≡ none → naBodyCanon .Fits b
+  pub fits-body : (i : ℕ) (b : NaBody k) → Faultless (naBodyNumbers k i b) → naBodyCanon .Fits b
   fits-body i (both l e) f =
       let j = i + length (printLocation k l) in
-      let h = misfit-both (muNumbers (endsNumbers k) i l) (muNumbers naEditNumbers j e) f in
+      let h = faultless-both (muNumbers (endsNumbers k) i l) (muNumbers naEditNumbers j e) f in
       (location-fits k i l (h .0), fits-mu j e (h .1))

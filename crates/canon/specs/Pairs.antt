@@ -1,14 +1,11 @@
 -- Document 01, "Pairs at the edge": read, and written again.
-use Prim.Native.Nat.{ℕ, _≤_}
+use Prim.Native.Nat.{ℕ}
 use Prim.Native.String.{String}
-use mathlib.Core.Path.{_≡_, refl, ap}
+use mathlib.Core.Path.{_≡_, refl}
 use mathlib.Core.List.{List, [], _∷_, _++_, map}
 use mathlib.Core.Option.{Option, none, some}
-use mathlib.Core.Bool.{Bool, true, false, cond}
-use lib.Dec.{leb}
+use mathlib.Core.Bool.{Bool, true, false}
 use lib.IntN.{pos}
-use lib.ListN.{length}
-use borrow.Author.Tests.{leb-true, leb-false}
 use Rattle.texts.specs.Ascii.{ascii}
 use Rattle.texts.specs.Runs.{every}
 use Rattle.residue.specs.Residues.{isResidue, threes, isResidues}
@@ -22,18 +19,16 @@ use Rattle.record.specs.declared.GenomePos.the-variants.{At}
 use Rattle.record.specs.declared.UncertainLengthChange.the-variants.{Known}
 use Rattle.grammar.specs.Shapes.{Mu.certain, Both.both}
 use Rattle.grammar.specs.Values.{BodyV, ProtPosV.protPosV, NaEditV.refAlt, ProteinEditV.extV, HeaderV.headerV, ProteinBodyV, ProteinBodyV.ordinary, ProteinBodyV.noChangeV, ProteinBodyV.noChangeUncertainV, ProteinBodyV.noProteinV, ProteinBodyV.noProteinUncertainV, ProteinBodyV.unknownV, ProteinBodyV.initiationUncertain, Value, Value.value}
-use Rattle.grammar.specs.Meaning.{meaning}
-use Rattle.grammar.specs.Numbers.{misfit, numbersAt}
-use Rattle.grammar.specs.Records.{recordAt}
+use Rattle.grammar.specs.Spans.{part}
 use Rattle.grammar.specs.Contents.{content}
-use Rattle.grammar.specs.ContentLaw.{content-is}
 use Rattle.na_edits.specs.Alphabet.{alphabets}
 use Rattle.protein_edits.specs.Canon.{canonTerminal}
 use Rattle.headers.specs.Canonical.{canonHeader}
-use Rattle.bodies.specs.Computing.{parser, computing}
-use Rattle.bodies.specs.Trees.{parsed-tree, no-tree}
-use Rattle.promise.specs.Outcome.{Outcome.given, Outcome.refused, limit}
-use Rattle.promise.specs.Reading.{Reads, Reads.tooLong, Reads.notInGrammar, Reads.doesNotFit, Reads.accepted}
+use Rattle.bodies.specs.Computing.{computing}
+use Rattle.bodies.specs.Outcomes.{textOutcome, outcome-read}
+use Rattle.promise.specs.Outcome.{Outcome, Outcome.given, Outcome.refused}
+use Rattle.promise.specs.Reading.{Reads}
+use Rattle.promise.specs.Accepted.{reads-content}
 use Rattle.promise.specs.Writing.{ReadsAsValue, ShortestText}
 use Rattle.canon.specs.TextCanon.{canonText, reads-canon, text-none}
 
@@ -81,46 +76,32 @@ AllHold [] = Unit
 AllHold (r ∷ rs) = Holds r × AllHold rs
 
 -- ---- what becomes of a text, computed
-abbrev written : Bool → List ℕ → Result
-written true u = change u
-written false u = plain u
+-- the form of the value, its canonical text
+abbrev written : Bool → Option Text → Result
+written true (some y) = change (print y)
+written false (some y) = plain (print y)
+written true none = refusal 5 0
+written false none = refusal 5 0
 
--- the place of a misfit, the form of the value, its canonical text
-abbrev rewritten : Option ℕ → Bool → Option Text → Result
-rewritten (some place) location o = refusal 3 place
-rewritten none location (some y) = written location (print y)
-rewritten none location none = refusal 5 0
-
-abbrev onTree : Option Text → Result
-onTree none = refusal 2 0
-onTree (some x) = rewritten (misfit (numbersAt 0 x)) (hasLocation (meaning x)) (canonText allLetters alphabets (meaning x))
+abbrev rewritten : List ℕ → Outcome HgvsVariant → Result
+rewritten t (given v) = written (hasLocation (content t v)) (canonText allLetters alphabets (content t v))
+rewritten t (refused number place) = refusal number place
 
 abbrev answer : List ℕ → Result
-answer t = cond (leb (length t) limit) (onTree (parser t)) (refusal 1 0)
+answer t = rewritten t (textOutcome allLetters alphabets t)
 
-written-holds : (location : Bool) (t u : List ℕ) → Rewritten location t u → Holds (row t (written location u))
-written-holds true t u r = r
-written-holds false t u r = r
+written-holds : (location : Bool) (t : List ℕ) (y : Text) → Rewritten location t (print y) → Holds (row t (written location (some y)))
+written-holds true t y r = r
+written-holds false t y r = r
+
+rewritten-holds : (t : List ℕ) (o : Outcome HgvsVariant) → Reads allLetters t o → Holds (row t (rewritten t o))
+rewritten-holds t (refused number place) r = r
+rewritten-holds t (given v) r =
+    let c = reads-canon allLetters alphabets (content t v) t (reads-content allLetters t v r) in
+    rw (c .found) (written-holds (hasLocation (content t v)) t (c .tree) (record { back = v; reads = r; form = refl; shortest = c .shortest }))
 
 answer-holds : (t : List ℕ) → Holds (row t (answer t))
-answer-holds t = go (leb (length t) limit) refl
-  where
-    fitting : length t ≤ limit → (x : Text) → parser t ≡ some x → (m : Option ℕ) → misfit (numbersAt 0 x) ≡ m → Holds (row t (rewritten m (hasLocation (meaning x)) (canonText allLetters alphabets (meaning x))))
-    fitting l x e (some place) f = doesNotFit l x (parsed-tree allLetters alphabets t x e) place f
-    fitting l x e none f =
-        let s = parsed-tree allLetters alphabets t x e in
-        let r : ReadsAsValue allLetters t (meaning x) = record { tree = x; wf = s .wf; fits = f; text = s .text; means = refl } in
-        let c = reads-canon allLetters alphabets (meaning x) t r in
-        let v : content t (recordAt 0 x) ≡ meaning x = rw (s .text) at (content-is x) in
-        rw (c .found) (written-holds (hasLocation (meaning x)) t (print (c .tree)) (record { back = recordAt 0 x; reads = accepted l x s f; form = ap hasLocation v; shortest = rw v (c .shortest) }))
-
-    tree : length t ≤ limit → (o : Option Text) → parser t ≡ o → Holds (row t (onTree o))
-    tree l none e = notInGrammar l (no-tree allLetters alphabets t e)
-    tree l (some x) e = fitting l x e (misfit (numbersAt 0 x)) refl
-
-    go : (b : Bool) → leb (length t) limit ≡ b → Holds (row t (cond b (onTree (parser t)) (refusal 1 0)))
-    go true e = tree (leb-true (length t) limit e) (parser t) refl
-    go false e = tooLong (leb-false (length t) limit e)
+answer-holds t = rewritten-holds t (textOutcome allLetters alphabets t) (outcome-read allLetters alphabets t)
 
 abbrev answered : Row → Row
 answered (row t o) = row t (answer t)
@@ -159,7 +140,7 @@ pairs =
     []
 
 pairs-answered : map answered pairs ≡ pairs
-unfolding computing every isResidue threes isResidues valFrom decUpTo orZero canonTerminal canonHeader
+unfolding computing textOutcome part every isResidue threes isResidues valFrom decUpTo orZero canonTerminal canonHeader
 pairs-answered = refl
 
 pub pairs-hold : AllHold pairs

@@ -27,8 +27,8 @@ use Rattle.grammar.specs.ProteinEdits.{ProteinEdit, ProteinEdit.subst, ProteinE
 use Rattle.grammar.specs.Bodies.{Ends, printEnds, WfEnds, ProteinBody, ProteinBody.met1, ProteinBody.bracketedMet1, ProteinBody.noProteinUncertain, ProteinBody.noProtein, ProteinBody.noChangeUncertain, ProteinBody.noChange, ProteinBody.unknown, ProteinBody.change, ProteinBody.bracketed, printProteinBody, WfProteinBody, NotMet1}
 use Rattle.grammar.specs.Values.{ProtPosV, ProtPosV.protPosV, EndsV, ProteinEditV, ProteinEditV.fsV, ProteinEditV.extV, ProteinEditV.substV, ProteinEditV.delInsV, ProteinEditV.insPV, ProteinEditV.delV, ProteinEditV.dupPV, ProteinEditV.identV, ProteinBodyV, ProteinBodyV.ordinary, ProteinBodyV.noChangeV, ProteinBodyV.noChangeUncertainV, ProteinBodyV.noProteinV, ProteinBodyV.noProteinUncertainV, ProteinBodyV.unknownV, ProteinBodyV.initiationUncertain}
 use Rattle.grammar.specs.Meaning.{number, meaningProt, meaningEnds, meaningProteinEdit, meaningProteinBody}
-use Rattle.grammar.specs.Numbers.{misfit, residualNumbers, endsNumbers, proteinEditNumbers, proteinBodyNumbers}
-use Rattle.grammar.specs.NumberLaws.{one-fits, misfit-both, both-misfit}
+use Rattle.grammar.specs.Numbers.{Faultless, residualNumbers, endsNumbers, proteinEditNumbers, proteinBodyNumbers}
+use Rattle.grammar.specs.NumberLaws.{everyNumber, true-faultless, none-faultless, one-fits, faultless-both, both-faultless}
 use Rattle.lang.specs.Lang.{Lang}
 use Rattle.lang.specs.Canon.{Right, Covered, bothO, both-some}
 use Rattle.location.specs.Equal.{eqPosition, eq-true}
@@ -99,7 +99,7 @@ abbrev pub proteinBodyLang : Lang
 proteinBodyLang = wholeLang printProteinBody WfProteinBody parseProteinBody complete-protein sound-protein
 
 abbrev pub FitsProteinBody : ProteinBody → Type 0
-FitsProteinBody t = misfit (proteinBodyNumbers 0 t) ≡ none
+FitsProteinBody t = Faultless (proteinBodyNumbers 0 t)
 
 -- ---- what the test says
 met1-says : (i : EndsV Prot) (e : ProteinEditV) → isMet1 i e ≡ true → (i ≡ both metOne metOne) × (isUnknown e ≡ true)
@@ -201,11 +201,11 @@ module _ (a : Ends Prot) (b : ProteinEdit) where
   joined-wf (uncertain i) (uncertain e) w n = (w, n)
 
   -- location at i, edit at j
-  parts-fit : (i j : ℕ) → endsCanon Prot .Fits a → FitsProteinEdit b → misfit (endsNumbers Prot i a ++ proteinEditNumbers j b) ≡ none
-  parts-fit i j f g = both-misfit (endsNumbers Prot i a) (proteinEditNumbers j b) (fits-ends Prot i a f) (fits-anywhere 0 j b g)
+  parts-fit : (i j : ℕ) → endsCanon Prot .Fits a → FitsProteinEdit b → Faultless (endsNumbers Prot i a ++ proteinEditNumbers j b)
+  parts-fit i j f g = both-faultless (endsNumbers Prot i a) (proteinEditNumbers j b) (fits-ends Prot i a f) (fits-anywhere 0 j b g)
 
-  fit-parts : (i j : ℕ) → misfit (endsNumbers Prot i a ++ proteinEditNumbers j b) ≡ none → endsCanon Prot .Fits a × FitsProteinEdit b
-  fit-parts i j f = let h = misfit-both (endsNumbers Prot i a) (proteinEditNumbers j b) f in (ends-fits Prot i a (h .0), fits-anywhere j 0 b (h .1))
+  fit-parts : (i j : ℕ) → Faultless (endsNumbers Prot i a ++ proteinEditNumbers j b) → endsCanon Prot .Fits a × FitsProteinEdit b
+  fit-parts i j f = let h = faultless-both (endsNumbers Prot i a) (proteinEditNumbers j b) f in (ends-fits Prot i a (h .0), fits-anywhere j 0 b (h .1))
 
 -- wherever the body stands
 abbrev PartsFit : ProteinBody → Type 0
@@ -219,7 +219,7 @@ PartsFit unknown = Unit
 PartsFit (change (both l e)) = endsCanon Prot .Fits (inner l) × FitsProteinEdit (inner e)
 PartsFit (bracketed (both i e)) = endsCanon Prot .Fits i × FitsProteinEdit e
 
-body-parts : (k : ℕ) (t : ProteinBody) → misfit (proteinBodyNumbers k t) ≡ none → PartsFit t
+body-parts : (k : ℕ) (t : ProteinBody) → Faultless (proteinBodyNumbers k t) → PartsFit t
 body-parts k met1 f = tt
 body-parts k bracketedMet1 f = tt
 body-parts k noProteinUncertain f = tt
@@ -233,21 +233,21 @@ body-parts k (change (both (uncertain a) (certain b))) f = fit-parts a b (k + 1)
 body-parts k (change (both (uncertain a) (uncertain b))) f = fit-parts a b (k + 1) _ f
 body-parts k (bracketed (both a b)) f = fit-parts a b (k + 1) _ f
 
-parts-body : (k : ℕ) (t : ProteinBody) → PartsFit t → misfit (proteinBodyNumbers k t) ≡ none
-parts-body k met1 f = refl
-parts-body k bracketedMet1 f = refl
-parts-body k noProteinUncertain f = refl
-parts-body k noProtein f = refl
-parts-body k noChangeUncertain f = refl
-parts-body k noChange f = refl
-parts-body k unknown f = refl
+parts-body : (k : ℕ) (t : ProteinBody) → PartsFit t → Faultless (proteinBodyNumbers k t)
+parts-body k met1 f = none-faultless
+parts-body k bracketedMet1 f = none-faultless
+parts-body k noProteinUncertain f = none-faultless
+parts-body k noProtein f = none-faultless
+parts-body k noChangeUncertain f = none-faultless
+parts-body k noChange f = none-faultless
+parts-body k unknown f = none-faultless
 parts-body k (change (both (certain a) (certain b))) f = parts-fit a b k _ (f .0) (f .1)
 parts-body k (change (both (certain a) (uncertain b))) f = parts-fit a b k _ (f .0) (f .1)
 parts-body k (change (both (uncertain a) (certain b))) f = parts-fit a b (k + 1) _ (f .0) (f .1)
 parts-body k (change (both (uncertain a) (uncertain b))) f = parts-fit a b (k + 1) _ (f .0) (f .1)
 parts-body k (bracketed (both a b)) f = parts-fit a b (k + 1) _ (f .0) (f .1)
 
-pub protein-anywhere : (j k : ℕ) (t : ProteinBody) → misfit (proteinBodyNumbers j t) ≡ none → misfit (proteinBodyNumbers k t) ≡ none
+pub protein-anywhere : (j k : ℕ) (t : ProteinBody) → Faultless (proteinBodyNumbers j t) → Faultless (proteinBodyNumbers k t)
 protein-anywhere j k t f = parts-body k t (body-parts j t f)
 
 joined-fits : (l : Mu (EndsV Prot)) (e : Mu ProteinEditV) (a : Ends Prot) (b : ProteinEdit) → endsCanon Prot .Fits a → FitsProteinEdit b → FitsProteinBody (joined l e a b)
@@ -269,8 +269,8 @@ unfolding orZero valFrom
 met01-means = refl
 
 met01-fits : endsCanon Prot .Fits met01
-unfolding valFrom
-met01-fits = refl
+unfolding everyNumber valFrom
+met01-fits = true-faultless (endsNumbers Prot 0 met01) refl
 
 abbrev first-byte : List ℕ → ℕ
 first-byte s = getD s 0 0
@@ -294,7 +294,7 @@ module _ (l : Mu (EndsV Prot)) (e : Mu ProteinEditV) where
           let s = barred-says l e q in
           let i : some (joined l e met01 substUnknown) ≡ some t = rw q at h in
           let j : joined l e met01 substUnknown ≡ t = cc in
-          rw (← j) (right-joined met01 substUnknown (met-wf, zero-one-digits) tt met01-fits refl (met01-means ∙ sym (s .0)) (sym (unknown-says (inner e) (s .1))) (met01-unbarred l e q))
+          rw (← j) (right-joined met01 substUnknown (met-wf, zero-one-digits) tt met01-fits none-faultless (met01-means ∙ sym (s .0)) (sym (unknown-says (inner e) (s .1))) (met01-unbarred l e q))
       go false q =
           let s = both-some (joined l e) (endsCanon Prot .canon (inner l)) (proteinEditCanon .canon (inner e)) t (rw q at h) in
           let a = endsCanon Prot .right (inner l) (s .0) (s .1 .1 .0) in
@@ -308,12 +308,12 @@ right-exact v u t e r = let i : u ≡ t = cc in rw (← i) r
 
 pub right-protein : (v : ProteinBodyV) (t : ProteinBody) → canonProteinBody v ≡ some t → RightBody v t
 right-protein (ordinary (both l e)) t h = right-ordinary l e t h
-right-protein noChangeV t h = right-exact noChangeV noChange t h (record { wf = tt; fits = refl; means = refl })
-right-protein noChangeUncertainV t h = right-exact noChangeUncertainV noChangeUncertain t h (record { wf = tt; fits = refl; means = refl })
-right-protein noProteinV t h = right-exact noProteinV noProtein t h (record { wf = tt; fits = refl; means = refl })
-right-protein noProteinUncertainV t h = right-exact noProteinUncertainV noProteinUncertain t h (record { wf = tt; fits = refl; means = refl })
-right-protein unknownV t h = right-exact unknownV unknown t h (record { wf = tt; fits = refl; means = refl })
-right-protein initiationUncertain t h = right-exact initiationUncertain met1 t h (record { wf = tt; fits = refl; means = refl })
+right-protein noChangeV t h = right-exact noChangeV noChange t h (record { wf = tt; fits = none-faultless; means = refl })
+right-protein noChangeUncertainV t h = right-exact noChangeUncertainV noChangeUncertain t h (record { wf = tt; fits = none-faultless; means = refl })
+right-protein noProteinV t h = right-exact noProteinV noProtein t h (record { wf = tt; fits = none-faultless; means = refl })
+right-protein noProteinUncertainV t h = right-exact noProteinUncertainV noProteinUncertain t h (record { wf = tt; fits = none-faultless; means = refl })
+right-protein unknownV t h = right-exact unknownV unknown t h (record { wf = tt; fits = none-faultless; means = refl })
+right-protein initiationUncertain t h = right-exact initiationUncertain met1 t h (record { wf = tt; fits = none-faultless; means = refl })
 
 -- ---- and no tree of the value has a better text
 abbrev CoveredBody : ProteinBodyV → ProteinBody → Type 0
@@ -332,7 +332,7 @@ one-pair a b =
     shorter l
 
 -- a position Met 1
-met-one : (r ds : List ℕ) → misfit (residualNumbers 0 (residual r ds)) ≡ none → meaningProt (residual r ds) ≡ metOne → (r ≡ ascii "Met") × (val ds ≡ 1)
+met-one : (r ds : List ℕ) → Faultless (residualNumbers 0 (residual r ds)) → meaningProt (residual r ds) ≡ metOne → (r ≡ ascii "Met") × (val ds ≡ 1)
 met-one r ds f m =
     let n = or-zero-fit Plain (val ds) (one-fits (0 + length r) Plain ds f) in
     (cc, cc)

@@ -20,8 +20,8 @@ use Rattle.grammar.specs.Bodies.{Ends, WfEnds, printLocation, NaBody, WfNaBody,
 use Rattle.grammar.specs.Texts.{Text, Text.text, print, Wf}
 use Rattle.grammar.specs.Values.{EndsV, ProteinEditV}
 use Rattle.grammar.specs.Meaning.{meaningEnds, meaningProteinEdit, meaningProteinBody, meaningNaBody, meaningBody, meaning}
-use Rattle.grammar.specs.Numbers.{misfit, endsNumbers, muNumbers, naEditNumbers, proteinEditNumbers, naBodyNumbers, proteinBodyNumbers, bodyNumbers, numbersAt}
-use Rattle.grammar.specs.NumberLaws.{allPlain, misfit-both, plain-both}
+use Rattle.grammar.specs.Numbers.{Faultless, endsNumbers, muNumbers, naEditNumbers, proteinEditNumbers, naBodyNumbers, proteinBodyNumbers, bodyNumbers, numbersAt, FaultlessText}
+use Rattle.grammar.specs.NumberLaws.{allPlain, faultless-both, plain-both}
 use Rattle.lang.specs.MuCanon.{settledMu}
 use Rattle.location.specs.Equal.{eqPosition}
 use Rattle.location.specs.Canonical.{endsCanon}
@@ -32,17 +32,17 @@ use Rattle.protein_edits.specs.Canonical.{proteinEditCanon}
 use Rattle.protein_edits.specs.Settled.{settledProteinEdit, settled-protein-edit}
 use Rattle.headers.specs.Canonical.{header-found}
 use Rattle.bodies.specs.Settled.{settledNaBody, settledProteinBody, settledBody, settledText}
-use Rattle.promise.specs.Writing.{Fits, ShortestText}
+use Rattle.promise.specs.Writing.{ShortestText}
 use Rattle.canon.specs.NaBodyCanon.{naBodyCanon}
 use Rattle.canon.specs.ProteinBodyCanon.{metOne, isUnknown, isMet1, canonProteinBody}
 use Rattle.canon.specs.TextCanon.{canonBody, canonText, text-some}
 
 -- ---- nucleotide bodies
 module _ (na : ℕ → Bool) (al : Alphabet na) (k : Kind) where
-  settled-na : (i : ℕ) (b : NaBody k) → WfNaBody na k b → misfit (naBodyNumbers k i b) ≡ none → allPlain (naBodyNumbers k i b) ≡ true → settledNaBody k b ≡ true → naBodyCanon na al k .canon (meaningNaBody k b) ≡ some b
+  settled-na : (i : ℕ) (b : NaBody k) → WfNaBody na k b → Faultless (naBodyNumbers k i b) → allPlain (naBodyNumbers k i b) ≡ true → settledNaBody k b ≡ true → naBodyCanon na al k .canon (meaningNaBody k b) ≡ some b
   settled-na i (both l e) w f p s =
       let j = i + length (printLocation k l) in
-      let g = misfit-both (muNumbers (endsNumbers k) i l) (muNumbers naEditNumbers j e) f in
+      let g = faultless-both (muNumbers (endsNumbers k) i l) (muNumbers naEditNumbers j e) f in
       let q = plain-both (muNumbers (endsNumbers k) i l) (muNumbers naEditNumbers j e) p in
       let h = and-true (settledLocation k l) (settledMu settledNaEdit e) s in
       rw (settled-location k i l (w .0) (g .0) (q .0) (h .0), settled-na-edit na al j e (w .1) (g .1) (q .1) (h .1))
@@ -74,15 +74,15 @@ record PartsFound (a : Ends Prot) (b : ProteinEdit) : Type 0 where
   edit : proteinEditCanon .canon (meaningProteinEdit b) ≡ some b
   unbarred : isMet1 (meaningEnds Prot a) (meaningProteinEdit b) ≡ false
 
-parts-found : (i j : ℕ) (a : Ends Prot) (b : ProteinEdit) → WfEnds Prot a → WfProteinEdit b → misfit (endsNumbers Prot i a ++ proteinEditNumbers j b) ≡ none → allPlain (endsNumbers Prot i a ++ proteinEditNumbers j b) ≡ true
+parts-found : (i j : ℕ) (a : Ends Prot) (b : ProteinEdit) → WfEnds Prot a → WfProteinEdit b → Faultless (endsNumbers Prot i a ++ proteinEditNumbers j b) → allPlain (endsNumbers Prot i a ++ proteinEditNumbers j b) ≡ true
     → settledEnds Prot a && settledProteinEdit b ≡ true → PartsFound a b
 parts-found i j a b v w f p s =
-    let g = misfit-both (endsNumbers Prot i a) (proteinEditNumbers j b) f in
+    let g = faultless-both (endsNumbers Prot i a) (proteinEditNumbers j b) f in
     let q = plain-both (endsNumbers Prot i a) (proteinEditNumbers j b) p in
     let h = and-true (settledEnds Prot a) (settledProteinEdit b) s in
     record { ends = settled-ends Prot i a v (g .0) (q .0) (h .0); edit = settled-protein-edit j b w (g .1) (q .1) (h .1); unbarred = not-met1 (meaningEnds Prot a) (meaningProteinEdit b) (not-unknown b w (h .1)) }
 
-settled-protein : (i : ℕ) (b : ProteinBody) → WfProteinBody b → misfit (proteinBodyNumbers i b) ≡ none → allPlain (proteinBodyNumbers i b) ≡ true → settledProteinBody b ≡ true → canonProteinBody (meaningProteinBody b) ≡ some b
+settled-protein : (i : ℕ) (b : ProteinBody) → WfProteinBody b → Faultless (proteinBodyNumbers i b) → allPlain (proteinBodyNumbers i b) ≡ true → settledProteinBody b ≡ true → canonProteinBody (meaningProteinBody b) ≡ some b
 settled-protein i met1 w f p s = refl
 settled-protein i bracketedMet1 w f p s = absurd (clash s refl)
 settled-protein i noProteinUncertain w f p s = refl
@@ -103,7 +103,7 @@ settled-protein i (bracketed (both a b)) w f p s =
 
 -- ---- whole texts
 module _ (letters : Kind → ℕ → Bool) (al : (k : Kind) → Alphabet (letters k)) where
-  settled-body : (k : Kind) (i : ℕ) (b : Body k) → WfBody letters k b → misfit (bodyNumbers k i b) ≡ none → allPlain (bodyNumbers k i b) ≡ true → settledBody k b ≡ true → canonBody letters al k (meaningBody k b) ≡ some b
+  settled-body : (k : Kind) (i : ℕ) (b : Body k) → WfBody letters k b → Faultless (bodyNumbers k i b) → allPlain (bodyNumbers k i b) ≡ true → settledBody k b ≡ true → canonBody letters al k (meaningBody k b) ≡ some b
   settled-body Cds = settled-na (letters Cds) (al Cds) Cds
   settled-body Genome = settled-na (letters Genome) (al Genome) Genome
   settled-body Mt = settled-na (letters Mt) (al Mt) Mt
@@ -111,9 +111,9 @@ module _ (letters : Kind → ℕ → Bool) (al : (k : Kind) → Alphabet (letter
   settled-body Prot = settled-protein
   settled-body Rna = settled-na (letters Rna) (al Rna) Rna
 
-  settled-canon : (x : Text) → Wf letters x → Fits x → allPlain (numbersAt 0 x) ≡ true → settledText x ≡ true → canonText letters al (meaning x) ≡ some x
+  settled-canon : (x : Text) → Wf letters x → FaultlessText x → allPlain (numbersAt 0 x) ≡ true → settledText x ≡ true → canonText letters al (meaning x) ≡ some x
   settled-canon (text h k b) w f p s =
       rw (header-found h (w .0), settled-body k (0 + length (printHeader h) + length (printKind k)) b (w .1) f p s)
 
-  pub settled-shortest : (x : Text) → Wf letters x → Fits x → allPlain (numbersAt 0 x) ≡ true → settledText x ≡ true → ShortestText letters (print x) (meaning x)
+  pub settled-shortest : (x : Text) → Wf letters x → FaultlessText x → allPlain (numbersAt 0 x) ≡ true → settledText x ≡ true → ShortestText letters (print x) (meaning x)
   settled-shortest x w f p s = text-some letters al (meaning x) x (settled-canon x w f p s)

@@ -13,7 +13,7 @@ use Rattle.grammar.specs.Bodies.{NaBody, WfNaBody, Body, printBody, WfBody}
 use Rattle.grammar.specs.Texts.{Text, Text.text, print, Wf}
 use Rattle.grammar.specs.Values.{NaBodyV, BodyV, Value, Value.value}
 use Rattle.grammar.specs.Meaning.{meaningNaBody, meaningBody, meaning}
-use Rattle.grammar.specs.Numbers.{misfit, naBodyNumbers, bodyNumbers}
+use Rattle.grammar.specs.Numbers.{Faultless, naBodyNumbers, bodyNumbers, FaultlessText}
 use Rattle.grammar.specs.Reads.{best-unique}
 use Rattle.lang.specs.Lang.{Lang}
 use Rattle.lang.specs.Canon.{Canon, Right, Covered, bothO, both-some, canon-none, canon-some, none-canon}
@@ -22,7 +22,7 @@ use Rattle.headers.specs.Canonical.{canonHeader, right-header, covers-header}
 use Rattle.bodies.specs.NaBodies.{naBodyLang}
 use Rattle.bodies.specs.BodyLang.{parseBody, complete-body, sound-body}
 use Rattle.bodies.specs.WholeText.{parseText, complete-text, sound-text}
-use Rattle.promise.specs.Writing.{Fits, ReadsAsValue, ShortestText}
+use Rattle.promise.specs.Writing.{ReadsAsValue, ShortestText}
 use Rattle.canon.specs.WholeLang.{wholeLang}
 use Rattle.canon.specs.NaBodyCanon.{naBodyCanon, body-fits, fits-body}
 use Rattle.canon.specs.ProteinBodyCanon.{canonProteinBody, right-protein, covers-protein, protein-anywhere}
@@ -44,10 +44,10 @@ module _ (letters : Kind → ℕ → Bool) (al : (k : Kind) → Alphabet (letter
 
   -- ---- bodies
   -- whether a body's numbers fit does not depend on where it stands
-  na-anywhere : (k : Kind) (i j : ℕ) (b : NaBody k) → misfit (naBodyNumbers k i b) ≡ none → misfit (naBodyNumbers k j b) ≡ none
+  na-anywhere : (k : Kind) (i j : ℕ) (b : NaBody k) → Faultless (naBodyNumbers k i b) → Faultless (naBodyNumbers k j b)
   na-anywhere k i j b f = body-fits (letters k) (al k) k j b (fits-body (letters k) (al k) k i b f)
 
-  pub body-anywhere : (k : Kind) (i j : ℕ) (b : Body k) → misfit (bodyNumbers k i b) ≡ none → misfit (bodyNumbers k j b) ≡ none
+  pub body-anywhere : (k : Kind) (i j : ℕ) (b : Body k) → Faultless (bodyNumbers k i b) → Faultless (bodyNumbers k j b)
   body-anywhere Cds = na-anywhere Cds
   body-anywhere Genome = na-anywhere Genome
   body-anywhere Mt = na-anywhere Mt
@@ -60,9 +60,9 @@ module _ (letters : Kind → ℕ → Bool) (al : (k : Kind) → Alphabet (letter
   bodyLang k = wholeLang (printBody k) (WfBody letters k) (parseBody letters al k) (complete-body letters al k) (sound-body letters al k)
 
   abbrev FitsBody : (k : Kind) → Body k → Type 0
-  FitsBody k b = misfit (bodyNumbers k 0 b) ≡ none
+  FitsBody k b = Faultless (bodyNumbers k 0 b)
 
-  right-na : (k : Kind) (v : NaBodyV k) (t : NaBody k) → canonNaBody k v ≡ some t → WfNaBody (letters k) k t × ((misfit (naBodyNumbers k 0 t) ≡ none) × (meaningNaBody k t ≡ v))
+  right-na : (k : Kind) (v : NaBodyV k) (t : NaBody k) → canonNaBody k v ≡ some t → WfNaBody (letters k) k t × ((Faultless (naBodyNumbers k 0 t)) × (meaningNaBody k t ≡ v))
   right-na k v t e =
       let r = naBodyCanon (letters k) (al k) k .right v t e in
       (r .wf, (body-fits (letters k) (al k) k 0 t (r .fits), r .means))
@@ -78,7 +78,7 @@ module _ (letters : Kind → ℕ → Bool) (al : (k : Kind) → Alphabet (letter
   abbrev CoveredBody : (k : Kind) → Body k → Type 0
   CoveredBody k u = Covered (bodyLang k) (canonBody k) (meaningBody k u) u
 
-  covers-na : (k : Kind) (u : NaBody k) → WfNaBody (letters k) k u → misfit (naBodyNumbers k 0 u) ≡ none → Covered (naBodyLang (letters k) (al k) k) (canonNaBody k) (meaningNaBody k u) u
+  covers-na : (k : Kind) (u : NaBody k) → WfNaBody (letters k) k u → Faultless (naBodyNumbers k 0 u) → Covered (naBodyLang (letters k) (al k) k) (canonNaBody k) (meaningNaBody k u) u
   covers-na k u w f = naBodyCanon (letters k) (al k) k .covers u w (fits-body (letters k) (al k) k 0 u f)
 
   covers-body : (k : Kind) (u : Body k) → WfBody letters k u → FitsBody k u → CoveredBody k u
@@ -97,7 +97,7 @@ module _ (letters : Kind → ℕ → Bool) (al : (k : Kind) → Alphabet (letter
   abbrev place : Header → Kind → ℕ
   place h k = 0 + length (printHeader h) + length (printKind k)
 
-  right-text : (v : Value) (x : Text) → canonText v ≡ some x → Right textLang meaning Fits v x
+  right-text : (v : Value) (x : Text) → canonText v ≡ some x → Right textLang meaning FaultlessText v x
   right-text (value h k b) x e =
       let s = both-some (λ a c. text a k c) (canonHeader h) (canonBody k b) x e in
       let p = right-header h (s .0) (s .1 .1 .0) in
@@ -106,14 +106,14 @@ module _ (letters : Kind → ℕ → Bool) (al : (k : Kind) → Alphabet (letter
       let n = q .means in
       rw (← s .1 .1 .1 .1) (record { wf = (p .wf, q .wf); fits = body-anywhere k 0 (place (s .0) k) (s .1 .0) (q .fits); means = rw (m, n) })
 
-  covers-text : (u : Text) → Wf letters u → Fits u → Covered textLang canonText (meaning u) u
+  covers-text : (u : Text) → Wf letters u → FaultlessText u → Covered textLang canonText (meaning u) u
   covers-text (text h k b) w f =
       let c = covers-header h (w .0) tt in
       let d = covers-body k b (w .1) (body-anywhere k (place h k) 0 b f) in
       record { tree = text (c .tree) k (d .tree); found = rw (c .found, d .found); best = best-append (c .best) (best-behind (printKind k) (d .best)) }
 
   abbrev textCanon : Canon textLang
-  textCanon = record { Value = Value; meaning = meaning; Fits = Fits; canon = canonText; right = right-text; covers = covers-text }
+  textCanon = record { Value = Value; meaning = meaning; Fits = FaultlessText; canon = canonText; right = right-text; covers = covers-text }
 
   -- ---- what canon gives is the shortest text of the value, and it gives none exactly where no text reads as the value
   module _ (v : Value) where
@@ -142,7 +142,7 @@ module _ (letters : Kind → ℕ → Bool) (al : (k : Kind) → Alphabet (letter
 
     -- and no other text is the shortest
     pub shortest-only : (x : Text) → canonText v ≡ some x → (t : List ℕ) → ShortestText letters t v → t ≡ print x
-    shortest-only x e t s = best-unique print (Wf letters) Fits meaning t (print x) v s (text-some x e)
+    shortest-only x e t s = best-unique print (Wf letters) FaultlessText meaning t (print x) v s (text-some x e)
 
     -- read back, it is the tree that means the value
     pub read-back : (x : Text) → canonText v ≡ some x → (parseText letters al (print x) ≡ some x) × (meaning x ≡ v)

@@ -4,6 +4,7 @@ use libc::STDOUT_FILENO;
 use lines::Line;
 use lines::Progress;
 use record::ReadAnswer;
+use record::Refusal;
 ghost use Prim.Native.Nat.{_≤_};
 ghost use lib.ListN.{length};
 
@@ -11,7 +12,7 @@ pub mod columns; // columns.rt: what stands behind a record
 
 fn read(text: &[u8], long: bool) -> ReadAnswer {
     if long {
-        return ReadAnswer::TooLong;
+        return ReadAnswer::Refused(Refusal::TooLong);
     }
     reader::read(text)
 }

@@ -131,7 +131,7 @@ fn of_variant(v: HgvsVariant) -> Shown {
 fn of_answer(r: ReadAnswer) -> Shown {
     match r {
         ReadAnswer::Accepted(v) => of_variant(v),
-        _ => of_refusal(numbered::of_read(r)),
+        ReadAnswer::Refused(why) => of_refusal(numbered::of_refusal(why)),
     }
 }
 

@@ -13,7 +13,7 @@ pub fn byte(out: &mut [u8], at: usize, b: u8) -> usize
     out.len()
 }
 
-pub fn text(out: &mut [u8], at: usize, t: &[u8]) -> usize
+fn text(out: &mut [u8], at: usize, t: &[u8]) -> usize
     ensures { λ r. ⌜ r ≤ length (now (out .entry)) ⌝ }
 {
     if at <= out.len() {

@@ -6,7 +6,8 @@ use native.Mathlib.Omega.{arith}
 use lib.ListN.{length, length-append}
 use borrow.Author.Tests.{le-leb, lt-leb}
 use Rattle.lent.specs.Put.{put, put-front}
-use Rattle.record.specs.declared.WriteAnswer.the-variants.{Written, TooLong, NoRoom}
+use Rattle.record.specs.declared.Refusal.the-variants.{TooLong, NoRoom}
+use Rattle.record.specs.declared.WriteAnswer.the-variants.{Written, Refused}
 use Rattle.grammar.specs.Spans.{part}
 use Rattle.grammar.specs.Header.{printKind}
 use Rattle.emit_piece.specs.Texts.{markText}
@@ -32,11 +33,11 @@ module _ (s : List ℕ) where
 
 -- ---- what writing a text answers and leaves
 module _ (t output : List ℕ) where
-  pub too-long : 4096 < length t → (TooLong ≡ answered t output) × (output ≡ left t output)
+  pub too-long : 4096 < length t → (Refused TooLong ≡ answered t output) × (output ≡ left t output)
   unfolding answered left
   too-long h = rw (lt-leb (length t) 4096 h) (refl, refl)
 
-  pub no-room : length t ≤ 4096 → length output < length t → (NoRoom ≡ answered t output) × (output ≡ left t output)
+  pub no-room : length t ≤ 4096 → length output < length t → (Refused NoRoom ≡ answered t output) × (output ≡ left t output)
   unfolding answered left
   no-room h k = rw (le-leb (length t) 4096 h, lt-leb (length t) (length output) k) (refl, refl)
 

@@ -6,8 +6,9 @@ use lib.Dec.{leb}
 use lib.ListN.{length, drop}
 use Rattle.grammar.specs.Spans.{part}
 use Rattle.grammar.specs.Header.{printKind}
+use Rattle.record.specs.declared.Refusal.the-variants.{TooLong, NoRoom}
 use Rattle.record.specs.declared.WriteAnswer.{WriteAnswer}
-use Rattle.record.specs.declared.WriteAnswer.the-variants.{Written, TooLong, NoRoom}
+use Rattle.record.specs.declared.WriteAnswer.the-variants.{Written, Refused}
 use Rattle.emit_piece.specs.Texts.{markText}
 use Rattle.emit_row.specs.Texts.{rowText}
 use Rattle.emit_place.specs.Texts.{placeText}
@@ -27,7 +28,7 @@ module _ (s : List ℕ) where
 
 -- the text t, of at most 4,096 bytes, where the output has room for it
 unfoldable pub answered : List ℕ → List ℕ → WriteAnswer
-answered t output = cond (leb (length t) 4096) (cond (leb (length t) (length output)) (Written (length t)) NoRoom) TooLong
+answered t output = cond (leb (length t) 4096) (cond (leb (length t) (length output)) (Written (length t)) (Refused NoRoom)) (Refused TooLong)
 
 unfoldable pub left : List ℕ → List ℕ → List ℕ
 left t output = cond (leb (length t) 4096) (cond (leb (length t) (length output)) (t ++ drop (length t) output) output) output

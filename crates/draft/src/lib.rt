@@ -3,6 +3,7 @@ use emit_piece::Mark;
 use emit_place::Place;
 use emit_row::Row;
 use record::Kind;
+use record::Refusal;
 use record::Span;
 use record::WriteAnswer;
 ghost use mathlib.Core.Path.{_≡_};
@@ -118,10 +119,10 @@ pub fn write_draft(source: &[u8], d: Draft, output: &mut [u8]) -> WriteAnswer
 {
     let n = draft_len(source, d);
     if 4096 < n {
-        return WriteAnswer::TooLong;
+        return WriteAnswer::Refused(Refusal::TooLong);
     }
     if output.len() < n {
-        return WriteAnswer::NoRoom;
+        return WriteAnswer::Refused(Refusal::NoRoom);
     }
     put_draft(source, output, 0, d);
     WriteAnswer::Written(n)

@@ -1,14 +1,10 @@
 -- What reading answers to a text: the record with the spans of its parts, or the number of a refusal and its place.
 use Prim.Native.Nat.{ℕ}
 use Prim.Native.Char.{code}
-use mathlib.Core.Path.{_≡_, refl}
+use mathlib.Core.Path.{_≡_, refl, sym, _∙_}
 use mathlib.Core.List.{List, [], _∷_, _++_}
-use mathlib.Core.Option.{Option, none, some}
-use mathlib.Core.Bool.{Bool, true, false, cond}
-use lib.Dec.{leb}
 use lib.IntN.{ℤ, pos, negsuc}
-use lib.ListN.{length, replicate}
-use borrow.Author.Tests.{leb-true, leb-false}
+use lib.ListN.{replicate}
 use Rattle.texts.specs.Ascii.{ascii}
 use Rattle.texts.specs.Tables.{Each, each-so, columns}
 use Rattle.number.specs.Digits.{valFrom}
@@ -36,44 +32,16 @@ use Rattle.record.specs.declared.ProtLocEdit.the-variants.{Ordinary, Initiation
 use Rattle.record.specs.declared.Body.{Body}
 use Rattle.record.specs.declared.Body.the-variants as Bo
 use Rattle.record.specs.declared.ReadAnswer.{ReadAnswer}
-use Rattle.record.specs.declared.ReadAnswer.the-variants.{Accepted, TooLong, NotInGrammar, DoesNotFit}
-use Rattle.grammar.specs.Texts.{Text, allLetters}
-use Rattle.grammar.specs.Records.{recordAt}
-use Rattle.grammar.specs.Numbers.{misfit, numbersAt}
-use Rattle.promise.specs.Outcome.{readOutcome, limit}
-use Rattle.promise.specs.Reading.{Reads, Reads.tooLong, Reads.notInGrammar, Reads.doesNotFit, Reads.accepted}
-use Rattle.reader.specs.Unique.{one-answer}
+use Rattle.record.specs.declared.ReadAnswer.the-variants.{Accepted, Refused}
+use Rattle.record.specs.declared.Refusal.the-variants.{TooLong, NotInGrammar, DoesNotFit}
+use Rattle.grammar.specs.Texts.{allLetters}
+use Rattle.promise.specs.Outcome.{readOutcome}
+use Rattle.promise.specs.Reading.{Reads}
+use Rattle.promise.specs.Unique.{same-read}
 use Rattle.examples.specs.Tables.{Row, row}
 use Rattle.na_edits.specs.Alphabet.{alphabets}
-use Rattle.bodies.specs.Computing.{parser, computing}
-use Rattle.bodies.specs.Trees.{parsed-tree, no-tree}
-
--- ---- the one answer to a text, computed
-abbrev onMisfit : Text → Option ℕ → ReadAnswer
-onMisfit x none = Accepted (recordAt 0 x)
-onMisfit x (some place) = DoesNotFit place
-
-abbrev onTree : Option Text → ReadAnswer
-onTree none = NotInGrammar
-onTree (some x) = onMisfit x (misfit (numbersAt 0 x))
-
-abbrev answer : List ℕ → ReadAnswer
-answer t = cond (leb (length t) limit) (onTree (parser t)) TooLong
-
-answer-reads : (t : List ℕ) → Reads allLetters t (readOutcome (answer t))
-answer-reads t = go (leb (length t) limit) refl
-  where
-    fitting : (x : Text) (m : Option ℕ) → leb (length t) limit ≡ true → parser t ≡ some x → misfit (numbersAt 0 x) ≡ m → Reads allLetters t (readOutcome (onMisfit x m))
-    fitting x none h e f = accepted (leb-true (length t) limit h) x (parsed-tree allLetters alphabets t x e) f
-    fitting x (some place) h e f = doesNotFit (leb-true (length t) limit h) x (parsed-tree allLetters alphabets t x e) place f
-
-    tree : (o : Option Text) → leb (length t) limit ≡ true → parser t ≡ o → Reads allLetters t (readOutcome (onTree o))
-    tree none h e = notInGrammar (leb-true (length t) limit h) (no-tree allLetters alphabets t e)
-    tree (some x) h e = fitting x (misfit (numbersAt 0 x)) h e refl
-
-    go : (b : Bool) → leb (length t) limit ≡ b → Reads allLetters t (readOutcome (cond b (onTree (parser t)) TooLong))
-    go true h = tree (parser t) h refl
-    go false h = tooLong (leb-false (length t) limit h)
+use Rattle.bodies.specs.Computing.{computing}
+use Rattle.bodies.specs.Outcomes.{textOutcome, outcome-reads, read-outcome}
 
 -- ---- the table
 abbrev cut : ℕ → ℕ → Span
@@ -98,7 +66,7 @@ answers =
     row "AB_12.3:c.76+0del" (variant 7 Pt.Absent (cds (pos 76) (By (pos 0)) Start (DelRef (cut 17 17)))) ∷
     row "AB_12.3:c.*5-3del" (variant 7 Pt.Absent (cds (pos 5) (By (negsuc 2)) End (DelRef (cut 17 17)))) ∷
     row "AB_12.3:c.-2147483648del" (variant 7 Pt.Absent (cds (negsuc 2147483647) Absent Start (DelRef (cut 24 24)))) ∷
-    row "AB_12.3:c.-2147483649del" (DoesNotFit 11) ∷
+    row "AB_12.3:c.-2147483649del" (Refused (DoesNotFit 11)) ∷
     row "AB_12.3:c.-0del" (variant 7 Pt.Absent (cds (pos 0) Absent Start (DelRef (cut 15 15)))) ∷
     row "AB_12.3:c.1delAinsT" (variant 7 Pt.Absent (cds (pos 1) Absent Start (RefAlt (cut 14 15) (cut 18 19)))) ∷
     row "AB_12.3:c.1A>T" (variant 7 Pt.Absent (cds (pos 1) Absent Start (RefAlt (cut 11 12) (cut 13 14)))) ∷
@@ -108,27 +76,27 @@ answers =
     row "AB_12.3:p.(Met1?)" (variant 7 Pt.Absent (Bo.Prot InitiationUncertain)) ∷
     -- the header's digits are no number, those of a position are
     row "AB_12.99999999999:c.1del" (variant 17 Pt.Absent (cds (pos 1) Absent Start (DelRef (cut 24 24)))) ∷
-    row "AB_12.3:c.12345678901del" (DoesNotFit 10) ∷
-    row "AB_12.3:g.2147483648del" (DoesNotFit 10) ∷
+    row "AB_12.3:c.12345678901del" (Refused (DoesNotFit 10)) ∷
+    row "AB_12.3:g.2147483648del" (Refused (DoesNotFit 10)) ∷
     -- the leftmost of two
-    row "AB_12.3:g.5_99999999999del99999999999" (DoesNotFit 12) ∷
-    row "AB_12.3:p.Gly2extMet-2147483648" (DoesNotFit 21) ∷
+    row "AB_12.3:g.5_99999999999del99999999999" (Refused (DoesNotFit 12)) ∷
+    row "AB_12.3:p.Gly2extMet-2147483648" (Refused (DoesNotFit 21)) ∷
     -- a number that would not fit, in a text that is not in the grammar
-    row "AB_12.3:g.2147483648" NotInGrammar ∷
-    row "AB_12.3:c.1delAins" NotInGrammar ∷
-    row "" NotInGrammar ∷
-    row "hello" NotInGrammar ∷
+    row "AB_12.3:g.2147483648" (Refused NotInGrammar) ∷
+    row "AB_12.3:c.1delAins" (Refused NotInGrammar) ∷
+    row "" (Refused NotInGrammar) ∷
+    row "hello" (Refused NotInGrammar) ∷
     -- 4,096 bytes may be read, one more is too long
     record { written = ascii "AB_12.3:c.1del" ++ replicate 4082 (code "A"); beside = variant 7 Pt.Absent (cds (pos 1) Absent Start (DelRef (cut 14 4096))) } ∷
-    record { written = ascii "AB_12.3:c.1del" ++ replicate 4083 (code "A"); beside = TooLong } ∷
+    record { written = ascii "AB_12.3:c.1del" ++ replicate 4083 (code "A"); beside = Refused TooLong } ∷
     []
 
 abbrev Computed : Row ReadAnswer → Type 0
-Computed r = answer r.written ≡ r.beside
+Computed r = textOutcome allLetters alphabets r.written ≡ readOutcome r.beside
 
 computed : Each Computed answers
-unfolding computing valFrom orZero
-computed = columns (λ r. answer r.written) (λ r. r.beside) answers refl
+unfolding computing textOutcome valFrom orZero
+computed = columns (λ r. textOutcome allLetters alphabets r.written) (λ r. readOutcome r.beside) answers refl
 
 -- it meets the reader's contract, and no other does
 pub record IsAnswer (t : List ℕ) (a : ReadAnswer) : Type 0 where
@@ -136,7 +104,8 @@ pub record IsAnswer (t : List ℕ) (a : ReadAnswer) : Type 0 where
   pub only : (b : ReadAnswer) → Reads allLetters t (readOutcome b) → b ≡ a
 
 is-answer : (r : Row ReadAnswer) → Computed r → IsAnswer r.written r.beside
-is-answer r e = rw (← e) (record { reads = answer-reads r.written; only = λ b h. one-answer r.written b (answer r.written) h (answer-reads r.written) })
+is-answer r e =
+    record { reads = outcome-reads allLetters alphabets r.written e; only = λ b h. same-read b r.beside (sym (read-outcome allLetters alphabets r.written h) ∙ e) }
 
 pub answers-are : Each (λ r. IsAnswer r.written r.beside) answers
 answers-are = each-so Computed _ is-answer answers computed

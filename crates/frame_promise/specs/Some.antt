@@ -1,21 +1,16 @@
 -- Every text has an answer, every call an outcome, and every stream can be fed.
-use Prim.Native.Nat.{ℕ, _≤_}
+use Prim.Native.Nat.{ℕ}
 use native.Mathlib.Omega.{arith}
 use mathlib.Core.Path.{_≡_, refl, ap, _∙_}
 use mathlib.Core.Bool.{Bool, true, false}
 use mathlib.Core.List.{List, [], _∷_, _++_}
 use mathlib.Core.Option.{Option, none, some}
-use lib.Dec.{leb}
 use lib.ListN.{length, drop}
-use borrow.Author.Tests.{leb-true, leb-false}
-use Rattle.grammar.specs.Texts.{Text, allLetters}
-use Rattle.grammar.specs.Records.{recordAt}
-use Rattle.grammar.specs.Numbers.{misfit, numbersAt}
+use Rattle.grammar.specs.Texts.{allLetters}
 use Rattle.na_edits.specs.Alphabet.{alphabets}
-use Rattle.bodies.specs.WholeText.{parseText}
-use Rattle.bodies.specs.Trees.{parsed-tree, no-tree}
-use Rattle.promise.specs.Outcome.{Outcome.given, Outcome.refused, limit}
-use Rattle.promise.specs.Reading.{Reads, Reads.tooLong, Reads.notInGrammar, Reads.doesNotFit, Reads.accepted}
+use Rattle.bodies.specs.Outcomes.{textOutcome, outcome-read}
+use Rattle.promise.specs.Outcome.{Outcome.refused, limit}
+use Rattle.promise.specs.Reading.{Reads}
 use Rattle.lines.specs.Lines.{Held, Held.whole, Held.tooLong}
 use Rattle.frames.specs.Frames.{textOf}
 use Rattle.frames.specs.Taking.{fresh, Standing, takes, gathered}
@@ -23,21 +18,8 @@ use Rattle.frames.specs.Calls.{used-within, used-some}
 use Rattle.frames.specs.Room.{takes-room}
 use Rattle.frame_promise.specs.Answers.{Answer, TextAnswer, TextAnswer.badLine, TextAnswer.read, Says, Says.saysBad, Says.saysLong, Says.saysRead, Reply, Gives.silent, Gives.answered, Feeds, replies, Feeding, Feeding.done, Feeding.call}
 
-module _ (t : List ℕ) where
-  fitting-some : length t ≤ limit → (o : Option Text) → parseText allLetters alphabets t ≡ o → (a : Answer) × Reads allLetters t a
-  fitting-some h none e = (refused 2 0, notInGrammar h (no-tree allLetters alphabets t e))
-  fitting-some h (some x) e = go (misfit (numbersAt 0 x)) refl
-    where
-      go : (o : Option ℕ) → misfit (numbersAt 0 x) ≡ o → (a : Answer) × Reads allLetters t a
-      go none f = (given (recordAt 0 x), accepted h x (parsed-tree allLetters alphabets t x e) f)
-      go (some place) f = (refused 3 place, doesNotFit h x (parsed-tree allLetters alphabets t x e) place f)
-
-  reads-some : (a : Answer) × Reads allLetters t a
-  reads-some = go (leb (length t) limit) refl
-    where
-      go : (b : Bool) → leb (length t) limit ≡ b → (a : Answer) × Reads allLetters t a
-      go true e = fitting-some (leb-true (length t) limit e) (parseText allLetters alphabets t) refl
-      go false e = (refused 1 0, Reads.tooLong (leb-false (length t) limit e))
+reads-some : (t : List ℕ) → (a : Answer) × Reads allLetters t a
+reads-some t = (textOutcome allLetters alphabets t, outcome-read allLetters alphabets t)
 
 pub every-text : (ls : List (List ℕ)) → (a : Answer) × TextAnswer ls a
 every-text ls = go (textOf ls) refl

@@ -8,8 +8,8 @@ use lib.Dec.{ltb}
 use lib.ListN.{length, take}
 use borrow.Author.Tests.{lt-ltb, le-ltb}
 use Rattle.texts.specs.Tests.{left-or, right-or}
+use Rattle.record.specs.declared.Refusal.the-variants.{TooLong, BadLine}
 use Rattle.record.specs.declared.ReadAnswer.{ReadAnswer}
-use Rattle.record.specs.declared.ReadAnswer.the-variants as R
 use Rattle.grammar.specs.Texts.{allLetters}
 use Rattle.promise.specs.Outcome.{Outcome.refused, readOutcome, limit}
 use Rattle.promise.specs.Reading.{Reads}
@@ -18,27 +18,27 @@ use Rattle.frames.specs.declared.FrameTaken.{FrameTaken}
 use Rattle.frames.specs.Taking.{fresh, Standing, takes, told, gathered}
 use Rattle.frame_promise.specs.Answers.{Answer, Says.saysBad, Says.saysLong, Says.saysRead, Gives, Gives.silent, Gives.answered, Feeds}
 use Rattle.frame_reader.specs.declared.FrameAnswer.{FrameAnswer}
-use Rattle.frame_reader.specs.declared.FrameAnswer.the-variants.{BadLine, Read}
-use Rattle.frame_reader.specs.Answer.{frameOutcome, AnswersText}
+use Rattle.frame_reader.specs.declared.FrameAnswer.the-variants.{Answered}
+use Rattle.frame_reader.specs.Answer.{frameOutcome, refusedFor, AnswersText}
 
 -- ---- the answer of a text
 module _ (g : Standing) where
-  pub answers-bad : g .state .bad ≡ true → AnswersText g BadLine
+  pub answers-bad : g .state .bad ≡ true → AnswersText g (refusedFor BadLine)
   unfolding gathered
   answers-bad e = record { outcome = refused 8 0; is = refl; says = rw e saysBad }
 
   module _ (good : g .state .bad ≡ false) where
-    not-held : g .state .long || ltb (length (g .buffer)) (g .state .len) ≡ true → AnswersText g (Read R.TooLong)
+    not-held : g .state .long || ltb (length (g .buffer)) (g .state .len) ≡ true → AnswersText g (refusedFor TooLong)
     unfolding gathered
     not-held e = record { outcome = refused 1 0; is = refl; says = rw (good, e) saysLong }
 
-    pub answers-long : g .state .long ≡ true → AnswersText g (Read R.TooLong)
+    pub answers-long : g .state .long ≡ true → AnswersText g (refusedFor TooLong)
     answers-long e = not-held (left-or (ltb (length (g .buffer)) (g .state .len)) e)
 
-    pub answers-outside : length (g .buffer) < g .state .len → AnswersText g (Read R.TooLong)
+    pub answers-outside : length (g .buffer) < g .state .len → AnswersText g (refusedFor TooLong)
     answers-outside h = not-held (right-or (g .state .long) (lt-ltb (length (g .buffer)) (g .state .len) h))
 
-    pub answers-read : g .state .long ≡ false → g .state .len ≤ length (g .buffer) → {r : ReadAnswer} → Reads allLetters (take (g .state .len) (g .buffer)) (readOutcome r) → AnswersText g (Read r)
+    pub answers-read : g .state .long ≡ false → g .state .len ≤ length (g .buffer) → {r : ReadAnswer} → Reads allLetters (take (g .state .len) (g .buffer)) (readOutcome r) → AnswersText g (Answered r)
     unfolding gathered
     answers-read e h {r} reads = record { outcome = readOutcome r; is = refl; says = rw (good, e, le-ltb (length (g .buffer)) (g .state .len) h) (saysRead reads) }
 

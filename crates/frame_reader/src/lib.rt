@@ -1,14 +1,15 @@
 // Texts that come as frames, read as their empty lines come.
 use frames::FrameState;
 use record::ReadAnswer;
+use record::Refusal;
+ghost use mathlib.Core.Path.{_≡_};
 ghost use Rattle.frame_promise.specs.Answers.{Feeds};
-ghost use Rattle.frame_reader.specs.Answer.{frameOutcome, AnswersText};
+ghost use Rattle.frame_reader.specs.Answer.{frameOutcome, refusedFor, AnswersText};
 
 pub enum FrameAnswer {
     // no empty line has come
     Unfinished,
-    BadLine,
-    Read(ReadAnswer),
+    Answered(ReadAnswer),
 }
 
 // How many bytes of a piece were taken, how many of the text are at the buffer's front, the text so far, and the answer of the text that an
@@ -20,21 +21,27 @@ pub struct Fed {
     pub answer: FrameAnswer,
 }
 
+fn refused(why: Refusal) -> FrameAnswer
+    ensures { λ r. ⌜ r ≡ refusedFor why ⌝ }
+{
+    FrameAnswer::Answered(ReadAnswer::Refused(why))
+}
+
 // The answer of a text, at its empty line.
 fn answer_of(state: FrameState, buffer: &[u8]) -> FrameAnswer
     ensures { λ r. ⌜ AnswersText (record { state = state; buffer = now (buffer .entry) }) r ⌝ }
 {
     if state.bad {
-        return FrameAnswer::BadLine;
+        return refused(Refusal::BadLine);
     }
     if state.long {
-        return FrameAnswer::Read(ReadAnswer::TooLong);
+        return refused(Refusal::TooLong);
     }
     let len = state.len;
     if buffer.len() < len {
-        return FrameAnswer::Read(ReadAnswer::TooLong);
+        return refused(Refusal::TooLong);
     }
-    FrameAnswer::Read(reader::read(&buffer[..len]))
+    FrameAnswer::Answered(reader::read(&buffer[..len]))
 }
 
 // Takes the bytes of a piece up to an empty line, or all of them; the buffer holds the text so far.

@@ -29,8 +29,7 @@ fn put_answer(buffer: &[u8], out: &mut [u8], answer: FrameAnswer) -> usize
 {
     match answer {
         FrameAnswer::Unfinished => 0,
-        FrameAnswer::BadLine => compare_room::text(out, 0, b"! 8 0\n"),
-        FrameAnswer::Read(r) => {
+        FrameAnswer::Answered(r) => {
             let behind = compare_record::put_answer(buffer, out, r);
             compare_room::byte(out, behind, b'\n')
         }

@@ -1,23 +1,27 @@
--- Laws of a row of numbers: whether all of them fit, and whether all are plainly spelled, which their places do not change.
+-- Laws of a row of numbers: whether it is faultless, and whether all are plainly spelled, which their places do not change. What `Faultless`
+-- says is known here alone.
 use Prim.Native.Nat.{ℕ, _≤_}
 use mathlib.Core.Path.{_≡_, refl, sym, _∙_}
 use mathlib.Core.List.{List, [], _∷_, _++_}
 use mathlib.Core.Option.{none, some}
 use mathlib.Core.Bool.{Bool, true, false, cond, _&&_}
+use lib.IntN.{ℤ}
 use borrow.Author.Tests.{leb-true, le-leb}
 use Rattle.texts.specs.Tests.{none-some, and-true, true-and}
 use Rattle.number.specs.declared.Sign.{Sign}
 use Rattle.number.specs.Digits.{val}
 use Rattle.number.specs.Reading.{fits, most, isPlain}
-use Rattle.grammar.specs.Numbers.{Numeral, Numeral.numeral, misfit}
+use Rattle.number.specs.Written.{Written}
+use Rattle.grammar.specs.Numbers.{Numeral, Numeral.numeral, misfit, Faultless}
 
 -- every number passes a test
 unfoldable pub everyNumber : (Sign → List ℕ → Bool) → List Numeral → Bool
 everyNumber test [] = true
 everyNumber test (numeral place sign ds ∷ ns) = test sign ds && everyNumber test ns
 
-abbrev pub allFit : List Numeral → Bool
-allFit = everyNumber (λ sign ds. fits sign (val ds))
+-- whether it is faultless
+abbrev pub isFaultless : List Numeral → Bool
+isFaultless = everyNumber (λ sign ds. fits sign (val ds))
 
 abbrev pub allPlain : List Numeral → Bool
 allPlain = everyNumber isPlain
@@ -31,53 +35,68 @@ every-append test (numeral place sign ds ∷ ms) ns = go (test sign ds) (every-a
     go true h = h
     go false h = refl
 
--- all fit exactly where none does not
-pub misfit-fit : (ns : List Numeral) → misfit ns ≡ none → allFit ns ≡ true
-unfolding everyNumber
-misfit-fit [] e = refl
-misfit-fit (numeral place sign ds ∷ ns) e = go (fits sign (val ds)) refl (misfit-fit ns) e
+-- ---- what it says
+pub faultless-fits : (ns : List Numeral) → Faultless ns → misfit ns ≡ none
+unfolding Faultless
+faultless-fits ns e = e
+
+pub fits-faultless : (ns : List Numeral) → misfit ns ≡ none → Faultless ns
+unfolding Faultless
+fits-faultless ns e = e
+
+pub faultless-true : (ns : List Numeral) → Faultless ns → isFaultless ns ≡ true
+unfolding everyNumber Faultless
+faultless-true [] e = refl
+faultless-true (numeral place sign ds ∷ ns) e = go (fits sign (val ds)) refl (faultless-true ns) e
   where
-    go : (b : Bool) → fits sign (val ds) ≡ b → (misfit ns ≡ none → allFit ns ≡ true) → cond b (misfit ns) (some place) ≡ none → fits sign (val ds) && allFit ns ≡ true
+    go : (b : Bool) → fits sign (val ds) ≡ b → (misfit ns ≡ none → isFaultless ns ≡ true) → cond b (misfit ns) (some place) ≡ none → fits sign (val ds) && isFaultless ns ≡ true
     go true q rest h = true-and q (rest h)
     go false q rest h = absurd (none-some (sym h))
 
-pub fit-misfit : (ns : List Numeral) → allFit ns ≡ true → misfit ns ≡ none
-unfolding everyNumber
-fit-misfit [] e = refl
-fit-misfit (numeral place sign ds ∷ ns) e = let h = and-true (fits sign (val ds)) (allFit ns) e in rw (h .0) (fit-misfit ns (h .1))
+pub true-faultless : (ns : List Numeral) → isFaultless ns ≡ true → Faultless ns
+unfolding everyNumber Faultless
+true-faultless [] e = refl
+true-faultless (numeral place sign ds ∷ ns) e = let h = and-true (fits sign (val ds)) (isFaultless ns) e in rw (h .0) (true-faultless ns (h .1))
 
--- ---- one number
+-- ---- no number, and one
+pub none-faultless : Faultless []
+unfolding Faultless
+none-faultless = refl
+
 module _ (place : ℕ) (sign : Sign) (ds : List ℕ) where
-  pub one-fits : misfit (numeral place sign ds ∷ []) ≡ none → val ds ≤ most sign
+  pub one-fits : Faultless (numeral place sign ds ∷ []) → val ds ≤ most sign
   unfolding everyNumber
-  one-fits e = leb-true (val ds) (most sign) (and-true (fits sign (val ds)) true (misfit-fit (numeral place sign ds ∷ []) e) .0)
+  one-fits e = leb-true (val ds) (most sign) (and-true (fits sign (val ds)) true (faultless-true (numeral place sign ds ∷ []) e) .0)
 
   pub one-plain : allPlain (numeral place sign ds ∷ []) ≡ true → isPlain sign ds ≡ true
   unfolding everyNumber
   one-plain e = and-true (isPlain sign ds) true e .0
 
-  pub fits-one : val ds ≤ most sign → misfit (numeral place sign ds ∷ []) ≡ none
-  fits-one h = rw (le-leb (val ds) (most sign) h)
-
--- it fits wherever it stands
-pub one-anywhere : (j k : ℕ) (sign : Sign) (ds : List ℕ) → misfit (numeral j sign ds ∷ []) ≡ none → misfit (numeral k sign ds ∷ []) ≡ none
-one-anywhere j k sign ds e = fits-one k sign ds (one-fits j sign ds e)
+-- as a value's number is spelled
+pub written-faultless : {sign : Sign} {z : ℤ} {ds : List ℕ} (place : ℕ) → Written sign z ds → Faultless (numeral place sign ds ∷ [])
+unfolding Faultless
+written-faultless {sign} {z} {ds} place w = rw (le-leb (val ds) (most sign) (w .fit))
 
 -- ---- two rows
-pub fit-append : (ms ns : List Numeral) → allFit (ms ++ ns) ≡ allFit ms && allFit ns
-fit-append = every-append (λ sign ds. fits sign (val ds))
+pub faultless-append : (ms ns : List Numeral) → isFaultless (ms ++ ns) ≡ isFaultless ms && isFaultless ns
+faultless-append = every-append (λ sign ds. fits sign (val ds))
 
 pub plain-both : (ms ns : List Numeral) → allPlain (ms ++ ns) ≡ true → (allPlain ms ≡ true) × (allPlain ns ≡ true)
 plain-both ms ns e = and-true (allPlain ms) (allPlain ns) (sym (every-append isPlain ms ns) ∙ e)
 
-pub misfit-both : (ms ns : List Numeral) → misfit (ms ++ ns) ≡ none → (misfit ms ≡ none) × (misfit ns ≡ none)
-misfit-both ms ns e =
-    let h = and-true (allFit ms) (allFit ns) (sym (fit-append ms ns) ∙ misfit-fit (ms ++ ns) e) in
-    (fit-misfit ms (h .0), fit-misfit ns (h .1))
+pub faultless-both : (ms ns : List Numeral) → Faultless (ms ++ ns) → Faultless ms × Faultless ns
+faultless-both ms ns e =
+    let h = and-true (isFaultless ms) (isFaultless ns) (sym (faultless-append ms ns) ∙ faultless-true (ms ++ ns) e) in
+    (true-faultless ms (h .0), true-faultless ns (h .1))
 
-pub both-misfit : (ms ns : List Numeral) → misfit ms ≡ none → misfit ns ≡ none → misfit (ms ++ ns) ≡ none
-both-misfit ms ns e f = fit-misfit (ms ++ ns) (fit-append ms ns ∙ true-and (misfit-fit ms e) (misfit-fit ns f))
+pub both-faultless : (ms ns : List Numeral) → Faultless ms → Faultless ns → Faultless (ms ++ ns)
+both-faultless ms ns e f = true-faultless (ms ++ ns) (faultless-append ms ns ∙ true-and (faultless-true ms e) (faultless-true ns f))
 
 -- ---- the same numbers at other places
-pub fit-elsewhere : (ms ns : List Numeral) → allFit ms ≡ allFit ns → misfit ms ≡ none → misfit ns ≡ none
-fit-elsewhere ms ns q e = fit-misfit ns (sym q ∙ misfit-fit ms e)
+pub faultless-elsewhere : (ms ns : List Numeral) → isFaultless ms ≡ isFaultless ns → Faultless ms → Faultless ns
+faultless-elsewhere ms ns q e = true-faultless ns (sym q ∙ faultless-true ms e)
+
+-- it is faultless wherever it stands
+pub one-anywhere : (j k : ℕ) (sign : Sign) (ds : List ℕ) → Faultless (numeral j sign ds ∷ []) → Faultless (numeral k sign ds ∷ [])
+unfolding everyNumber
+one-anywhere j k sign ds = faultless-elsewhere (numeral j sign ds ∷ []) (numeral k sign ds ∷ []) refl

@@ -1,5 +1,6 @@
 -- The numbers of a text from left to right, each with the place of its first digit, and the leftmost that does not fit.
 use Prim.Native.Nat.{ℕ, _+_}
+use mathlib.Core.Path.{_≡_}
 use mathlib.Core.List.{List, [], _∷_, _++_}
 use mathlib.Core.Option.{Option, none, some}
 use mathlib.Core.Bool.{cond}
@@ -29,6 +30,10 @@ pub data Numeral : Type 0 where
 abbrev pub misfit : List Numeral → Option ℕ
 misfit [] = none
 misfit (numeral place sign ds ∷ ns) = cond (fits sign (val ds)) (misfit ns) (some place)
+
+-- what is asked of the numbers of a text that is accepted: each fits
+unfoldable pub Faultless : List Numeral → Type 0
+Faultless ns = misfit ns ≡ none
 
 -- ---- positions
 abbrev pub offsetNumbers : ℕ → Offset → List Numeral
@@ -130,3 +135,6 @@ bodyNumbers Rna = naBodyNumbers Rna
 
 abbrev pub numbersAt : ℕ → Text → List Numeral
 numbersAt k (text h kind b) = bodyNumbers kind (k + length (printHeader h) + length (printKind kind)) b
+
+abbrev pub FaultlessText : Text → Type 0
+FaultlessText x = Faultless (numbersAt 0 x)

@@ -33,8 +33,8 @@ use Rattle.record.specs.declared.MtPos.the-variants as M
 use Rattle.grammar.specs.Positions.{Mark, Mark.bare, Mark.plus, Mark.minus, Mark.star, Offset, Offset.absent, Offset.ahead, Offset.back, Based, Based.based, Genomic, Genomic.known, Genomic.unknown, Residual.residual, Position, printMark, printOffset, printBased, printGenomic, Digits, WfOffset, WfBased, Unstarred, WfUnstarred, WfGenomic, WfPosition}
 use Rattle.grammar.specs.Values.{ProtPosV.protPosV, PositionV}
 use Rattle.grammar.specs.Meaning.{number, signOf, fromOf, offsetOf, meaningCds, meaningGenome, meaningMt, meaningPosition}
-use Rattle.grammar.specs.Numbers.{Numeral.numeral, misfit, offsetNumbers, basedNumbers, genomicNumbers, positionNumbers}
-use Rattle.grammar.specs.NumberLaws.{one-fits, fits-one, misfit-both, both-misfit}
+use Rattle.grammar.specs.Numbers.{Numeral.numeral, Faultless, offsetNumbers, basedNumbers, genomicNumbers, positionNumbers}
+use Rattle.grammar.specs.NumberLaws.{one-fits, none-faultless, written-faultless, faultless-both, both-faultless}
 use Rattle.lang.specs.Canon.{Canon, Right, Covered, map-some, both-some}
 use Rattle.lang.specs.IntervalCanon.{interval-canon}
 use Rattle.lang.specs.MuCanon.{mu-canon}
@@ -45,19 +45,19 @@ use Rattle.location.specs.Canon.{canonOffset, marked, canonBase, canonBa
 -- ---- offsets
 record OffsetRight (v : Declared.Offset) (o : Offset) : Type 0 where
   wf : WfOffset o
-  fit : (k : ℕ) → misfit (offsetNumbers k o) ≡ none
+  fit : (k : ℕ) → Faultless (offsetNumbers k o)
   means : offsetOf o ≡ v
 
 offset-right : (v : Declared.Offset) (o : Offset) → canonOffset v ≡ some o → OffsetRight v o
-offset-right Absent o e = let j : absent ≡ o = cc in rw (← j) (record { wf = tt; fit = λ k. refl; means = refl })
+offset-right Absent o e = let j : absent ≡ o = cc in rw (← j) (record { wf = tt; fit = λ k. none-faultless; means = refl })
 offset-right (By (pos v)) o e =
     let h = map-some ahead (digitsOf Plain v) o e in
     let w = digits-written Plain v (h .0) (h .1 .0) in
-    rw (← h .1 .1) (record { wf = w .digits; fit = λ k. fits-one (k + 1) Plain (h .0) (w .fit); means = ap By (w .value) })
+    rw (← h .1 .1) (record { wf = w .digits; fit = λ k. written-faultless (k + 1) w; means = ap By (w .value) })
 offset-right (By (negsuc v)) o e =
     let h = map-some back (digitsOf Minus (suc v)) o e in
     let w = digits-written Minus (suc v) (h .0) (h .1 .0) in
-    rw (← h .1 .1) (record { wf = w .digits; fit = λ k. fits-one (k + 1) Minus (h .0) (w .fit); means = ap By (w .value) })
+    rw (← h .1 .1) (record { wf = w .digits; fit = λ k. written-faultless (k + 1) w; means = ap By (w .value) })
 
 record OffsetCovered (v : Declared.Offset) (u : Offset) : Type 0 where
   tree : Offset
@@ -68,7 +68,7 @@ back-covers : (ds : List ℕ) (v : ℕ) → Digits ds → val ds ≡ v → v ≤
 back-covers ds zero w e h = record { tree = ahead (dec 0); found = refl; best = best-less (lit< tt) (dec-best w e) }
 back-covers ds (suc v) w e h = record { tree = back (dec (suc v)); found = rw (le-leb (suc v) (most Minus) h); best = best-behind (ascii "-") (dec-best w e) }
 
-offset-covers : (u : Offset) → WfOffset u → (k : ℕ) → misfit (offsetNumbers k u) ≡ none → OffsetCovered (offsetOf u) u
+offset-covers : (u : Offset) → WfOffset u → (k : ℕ) → Faultless (offsetNumbers k u) → OffsetCovered (offsetOf u) u
 offset-covers absent w k f = record { tree = absent; found = refl; best = best-refl }
 offset-covers (ahead ds) w k f =
     let h = one-fits (k + 1) Plain ds f in
@@ -98,7 +98,7 @@ base-right End z base e =
 
 record BasedRight (from : CdsFrom) (z : ℤ) (v : Declared.Offset) (t : Based) : Type 0 where
   wf : WfBased t
-  fit : misfit (basedNumbers 0 t) ≡ none
+  fit : Faultless (basedNumbers 0 t)
   means : meaningCds t ≡ record { base = z; offset = v; «cds_from» = from }
 
 based-right : (from : CdsFrom) (z : ℤ) (v : Declared.Offset) (t : Based) → canonBased from z v ≡ some t → BasedRight from z v t
@@ -107,7 +107,7 @@ based-right from z v t e =
     let b = base-right from z (h .0) (h .1 .1 .0) in
     let o = offset-right v (h .1 .0) (h .1 .1 .1 .0) in
     let j : based (b .mark) (b .text) (h .1 .0) ≡ t = ap (λ (base : Offset → Based). base (h .1 .0)) (b .is) ∙ h .1 .1 .1 .1 in
-    rw (← j) (record { wf = (b .written .digits, o .wf); fit = both-misfit (numeral (0 + length (printMark (b .mark))) (signOf (b .mark)) (b .text) ∷ []) (offsetNumbers (0 + length (printMark (b .mark)) + length (b .text)) (h .1 .0)) (fits-one _ (signOf (b .mark)) (b .text) (b .written .fit)) (o .fit _); means = means-of (b .written .value) (o .means) (b .side) })
+    rw (← j) (record { wf = (b .written .digits, o .wf); fit = both-faultless (numeral (0 + length (printMark (b .mark))) (signOf (b .mark)) (b .text) ∷ []) (offsetNumbers (0 + length (printMark (b .mark)) + length (b .text)) (h .1 .0)) (written-faultless _ (b .written)) (o .fit _); means = means-of (b .written .value) (o .means) (b .side) })
   where
     means-of : {x : ℤ} {w : Declared.Offset} {g : CdsFrom} → x ≡ z → w ≡ v → g ≡ from → _≡_ {A = CdsPos} (record { base = x; offset = w; «cds_from» = g }) (record { base = z; offset = v; «cds_from» = from })
     means-of p q r = rw (p, q, r)
@@ -133,10 +133,10 @@ record BasedCovered (p : CdsPos) (u : Based) : Type 0 where
   found : canonBased (p .«cds_from») (p .base) (p .offset) ≡ some tree
   best : Best (printBased tree) (printBased u)
 
-based-covers : (u : Based) → WfBased u → misfit (basedNumbers 0 u) ≡ none → BasedCovered (meaningCds u) u
+based-covers : (u : Based) → WfBased u → Faultless (basedNumbers 0 u) → BasedCovered (meaningCds u) u
 based-covers (based m ds o) w f =
     let k = 0 + length (printMark m) in
-    let h = misfit-both (numeral k (signOf m) ds ∷ []) (offsetNumbers (k + length ds) o) f in
+    let h = faultless-both (numeral k (signOf m) ds ∷ []) (offsetNumbers (k + length ds) o) f in
     let b = base-covers m ds (w .0) (one-fits k (signOf m) ds (h .0)) in
     let c = offset-covers o (w .1) (k + length ds) (h .1) in
     record {
@@ -148,7 +148,7 @@ based-covers (based m ds o) w f =
 -- from the start: without `*`, in whatever record has a base and an offset
 record UnstarredRight {A : Type 0} (made : ℤ → Declared.Offset → A) (z : ℤ) (v : Declared.Offset) (t : Based) : Type 0 where
   wf : WfUnstarred t
-  fit : misfit (basedNumbers 0 t) ≡ none
+  fit : Faultless (basedNumbers 0 t)
   means : made (meaningCds t .base) (meaningCds t .offset) ≡ made z v
 
 unstarred : (t : Based) → WfBased t → meaningCds t .«cds_from» ≡ Start → WfUnstarred t
@@ -168,7 +168,7 @@ unstarred-from plus w = refl
 unstarred-from minus w = refl
 unstarred-from star w = absurd w
 
-unstarred-covers : (m : Mark) (ds : List ℕ) (o : Offset) → WfUnstarred (based m ds o) → misfit (basedNumbers 0 (based m ds o)) ≡ none
+unstarred-covers : (m : Mark) (ds : List ℕ) (o : Offset) → WfUnstarred (based m ds o) → Faultless (basedNumbers 0 (based m ds o))
     → BasedCovered (record { base = number (signOf m) ds; offset = offsetOf o; «cds_from» = Start }) (based m ds o)
 unstarred-covers m ds o w f = rw (unstarred-from m (w .0)) at (based-covers (based m ds o) (w .1) f)
 
@@ -179,22 +179,22 @@ numberIn unknown = none
 
 record GenomicRight (v : Option ℤ) (t : Genomic) : Type 0 where
   wf : WfGenomic t
-  fit : misfit (genomicNumbers 0 t) ≡ none
+  fit : Faultless (genomicNumbers 0 t)
   means : numberIn t ≡ v
 
 genomic-right : (v : Option ℤ) (t : Genomic) → canonGenomic v ≡ some t → GenomicRight v t
-genomic-right none t e = let j : unknown ≡ t = cc in rw (← j) (record { wf = tt; fit = refl; means = refl })
+genomic-right none t e = let j : unknown ≡ t = cc in rw (← j) (record { wf = tt; fit = none-faultless; means = refl })
 genomic-right (some z) t e =
     let h = map-some known (unsignedDigits z) t e in
     let w = unsigned-written z (h .0) (h .1 .0) in
-    rw (← h .1 .1) (record { wf = w .digits; fit = fits-one 0 Plain (h .0) (w .fit); means = ap some (w .value) })
+    rw (← h .1 .1) (record { wf = w .digits; fit = written-faultless 0 w; means = ap some (w .value) })
 
 record GenomicCovered (v : Option ℤ) (u : Genomic) : Type 0 where
   tree : Genomic
   found : canonGenomic v ≡ some tree
   best : Best (printGenomic tree) (printGenomic u)
 
-genomic-covers : (u : Genomic) → WfGenomic u → misfit (genomicNumbers 0 u) ≡ none → GenomicCovered (numberIn u) u
+genomic-covers : (u : Genomic) → WfGenomic u → Faultless (genomicNumbers 0 u) → GenomicCovered (numberIn u) u
 genomic-covers (known ds) w f = record { tree = known (dec (val ds)); found = rw (unsigned-found (val ds) (one-fits 0 Plain ds f)); best = dec-best w refl }
 genomic-covers unknown w f = record { tree = unknown; found = refl; best = best-refl }
 
@@ -213,7 +213,7 @@ mt-means unknown = refl
 
 -- ---- every kind
 abbrev pub FitsPosition : (k : Kind) → Position k → Type 0
-FitsPosition k p = misfit (positionNumbers k 0 p) ≡ none
+FitsPosition k p = Faultless (positionNumbers k 0 p)
 
 abbrev RightPosition : (k : Kind) → PositionV k → Position k → Type 0
 RightPosition k = Right (posLang k) (meaningPosition k) (FitsPosition k)
@@ -240,7 +240,7 @@ rightPosition Prot (protPosV r z) t e =
     let h = cond-some (isResidue r) _ t e in
     let g = map-some (residual r) (unsignedDigits z) t (h .1) in
     let w = unsigned-written z (g .0) (g .1 .0) in
-    rw (← g .1 .1) (record { wf = (h .0, w .digits); fits = fits-one (0 + length r) Plain (g .0) (w .fit); means = ap (protPosV r) (w .value) })
+    rw (← g .1 .1) (record { wf = (h .0, w .digits); fits = written-faultless (0 + length r) w; means = ap (protPosV r) (w .value) })
 rightPosition Rna v (based m ds o) e =
     let r = unstarred-right {A = RnaPos} (λ z x. record { base = z; offset = x }) (v .base) (v .offset) (based m ds o) e in
     record { wf = r .wf; fits = r .fit; means = r .means }

@@ -1,31 +1,30 @@
--- Whether a location's numbers fit: the row of its numbers has no misfit exactly where each position fits, wherever it stands.
+-- Whether a location's numbers are faultless: their row is exactly where each position's row is, wherever it stands.
 use Prim.Native.Nat.{ℕ, _+_}
 use mathlib.Core.Path.{_≡_, refl}
-use mathlib.Core.Option.{none}
 use lib.ListN.{length}
 use Rattle.record.specs.declared.Kind.{Kind}
 use Rattle.record.specs.declared.Kind.the-variants.{Cds, Genome, Mt, Tx, Prot, Rna}
 use Rattle.grammar.specs.Positions.{Offset.absent, Offset.ahead, Offset.back, Based, Based.based, Genomic, Genomic.known, Genomic.unknown, Residual.residual, Position, printPosition}
 use Rattle.grammar.specs.Shapes.{Interval.one, Interval.two, Mu.certain, Mu.uncertain}
 use Rattle.grammar.specs.Bodies.{Ends, Location}
-use Rattle.grammar.specs.Numbers.{misfit, basedNumbers, genomicNumbers, positionNumbers, endsNumbers, muNumbers}
-use Rattle.grammar.specs.NumberLaws.{everyNumber, allFit, fit-elsewhere, misfit-both, both-misfit}
+use Rattle.grammar.specs.Numbers.{Faultless, basedNumbers, genomicNumbers, positionNumbers, endsNumbers, muNumbers}
+use Rattle.grammar.specs.NumberLaws.{everyNumber, isFaultless, faultless-elsewhere, faultless-both, both-faultless}
 use Rattle.location.specs.Canonical.{endsCanon, locationCanon}
 
 -- ---- a position fits wherever it stands
 module _ (i j : ℕ) where
-  based-anywhere : (t : Based) → allFit (basedNumbers i t) ≡ allFit (basedNumbers j t)
+  based-anywhere : (t : Based) → isFaultless (basedNumbers i t) ≡ isFaultless (basedNumbers j t)
   unfolding everyNumber
   based-anywhere (based m ds absent) = refl
   based-anywhere (based m ds (ahead es)) = refl
   based-anywhere (based m ds (back es)) = refl
 
-  genomic-anywhere : (t : Genomic) → allFit (genomicNumbers i t) ≡ allFit (genomicNumbers j t)
+  genomic-anywhere : (t : Genomic) → isFaultless (genomicNumbers i t) ≡ isFaultless (genomicNumbers j t)
   unfolding everyNumber
   genomic-anywhere (known ds) = refl
   genomic-anywhere unknown = refl
 
-  position-anywhere : (k : Kind) (t : Position k) → allFit (positionNumbers k i t) ≡ allFit (positionNumbers k j t)
+  position-anywhere : (k : Kind) (t : Position k) → isFaultless (positionNumbers k i t) ≡ isFaultless (positionNumbers k j t)
   unfolding everyNumber
   position-anywhere Cds t = based-anywhere t
   position-anywhere Genome t = genomic-anywhere t
@@ -34,28 +33,28 @@ module _ (i j : ℕ) where
   position-anywhere Prot (residual r ds) = refl
   position-anywhere Rna t = based-anywhere t
 
-pub position-fits-anywhere : (k : Kind) (i j : ℕ) (t : Position k) → misfit (positionNumbers k i t) ≡ none → misfit (positionNumbers k j t) ≡ none
-position-fits-anywhere k i j t = fit-elsewhere (positionNumbers k i t) (positionNumbers k j t) (position-anywhere i j k t)
+pub position-fits-anywhere : (k : Kind) (i j : ℕ) (t : Position k) → Faultless (positionNumbers k i t) → Faultless (positionNumbers k j t)
+position-fits-anywhere k i j t = faultless-elsewhere (positionNumbers k i t) (positionNumbers k j t) (position-anywhere i j k t)
 
 -- ---- intervals and locations
 module _ (k : Kind) (i : ℕ) where
-  pub ends-fits : (t : Ends k) → misfit (endsNumbers k i t) ≡ none → endsCanon k .Fits t
+  pub ends-fits : (t : Ends k) → Faultless (endsNumbers k i t) → endsCanon k .Fits t
   ends-fits (one p) e = position-fits-anywhere k i 0 p e
   ends-fits (two p q) e =
       let j = i + length (printPosition k p) + 1 in
-      let h = misfit-both (positionNumbers k i p) (positionNumbers k j q) e in
+      let h = faultless-both (positionNumbers k i p) (positionNumbers k j q) e in
       (position-fits-anywhere k i 0 p (h .0), position-fits-anywhere k j 0 q (h .1))
 
-  pub fits-ends : (t : Ends k) → endsCanon k .Fits t → misfit (endsNumbers k i t) ≡ none
+  pub fits-ends : (t : Ends k) → endsCanon k .Fits t → Faultless (endsNumbers k i t)
   fits-ends (one p) f = position-fits-anywhere k 0 i p f
   fits-ends (two p q) f =
       let j = i + length (printPosition k p) + 1 in
-      both-misfit (positionNumbers k i p) (positionNumbers k j q) (position-fits-anywhere k 0 i p (f .0)) (position-fits-anywhere k 0 j q (f .1))
+      both-faultless (positionNumbers k i p) (positionNumbers k j q) (position-fits-anywhere k 0 i p (f .0)) (position-fits-anywhere k 0 j q (f .1))
 
-pub location-fits : (k : Kind) (i : ℕ) (l : Location k) → misfit (muNumbers (endsNumbers k) i l) ≡ none → locationCanon k .Fits l
+pub location-fits : (k : Kind) (i : ℕ) (l : Location k) → Faultless (muNumbers (endsNumbers k) i l) → locationCanon k .Fits l
 location-fits k i (certain t) e = ends-fits k i t e
 location-fits k i (uncertain t) e = ends-fits k (i + 1) t e
 
-pub fits-location : (k : Kind) (i : ℕ) (l : Location k) → locationCanon k .Fits l → misfit (muNumbers (endsNumbers k) i l) ≡ none
+pub fits-location : (k : Kind) (i : ℕ) (l : Location k) → locationCanon k .Fits l → Faultless (muNumbers (endsNumbers k) i l)
 fits-location k i (certain t) f = fits-ends k i t f
 fits-location k i (uncertain t) f = fits-ends k (i + 1) t f

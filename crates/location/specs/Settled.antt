@@ -2,7 +2,7 @@
 use Prim.Native.Nat.{ℕ, _+_, _≤_}
 use mathlib.Core.Path.{_≡_, refl}
 use mathlib.Core.List.{List, [], _∷_}
-use mathlib.Core.Option.{none, some}
+use mathlib.Core.Option.{some}
 use mathlib.Core.Bool.{Bool, true, false, not, _&&_}
 use lib.IntN.{ℤ, pos}
 use lib.ListN.{length}
@@ -16,12 +16,12 @@ use Rattle.number.specs.Signs.{or-zero-fit}
 use Rattle.number.specs.Plain.{plain-found, unsigned-plain, minus-plain}
 use Rattle.record.specs.declared.Kind.{Kind}
 use Rattle.record.specs.declared.Kind.the-variants.{Cds, Genome, Mt, Tx, Prot, Rna}
-use Rattle.grammar.specs.Positions.{Mark, Mark.bare, Mark.plus, Mark.minus, Mark.star, Offset, Offset.absent, Offset.ahead, Offset.back, Based, Based.based, Genomic, Genomic.known, Genomic.unknown, Residual, Residual.residual, Position, printMark, printPosition, Digits, WfOffset, WfBased, WfGenomic, WfPosition}
+use Rattle.grammar.specs.Positions.{Mark, Mark.bare, Mark.plus, Mark.minus, Mark.star, Offset, Offset.absent, Offset.ahead, Offset.back, Based, Based.based, Genomic, Genomic.known, Genomic.unknown, Residual, Residual.residual, Position, printMark, printPosition, Digits, WfOffset, WfBased, WfPosition}
 use Rattle.grammar.specs.Shapes.{Interval.one, Interval.two, Mu.certain, Mu.uncertain}
 use Rattle.grammar.specs.Bodies.{Ends, WfEnds, Location, WfLocation}
-use Rattle.grammar.specs.Meaning.{number, signOf, fromOf, offsetOf, meaningCds, meaningPosition, meaningEnds, mapMu}
-use Rattle.grammar.specs.Numbers.{Numeral.numeral, misfit, offsetNumbers, basedNumbers, genomicNumbers, positionNumbers, endsNumbers, muNumbers}
-use Rattle.grammar.specs.NumberLaws.{allPlain, one-fits, one-plain, misfit-both, plain-both}
+use Rattle.grammar.specs.Meaning.{number, signOf, fromOf, offsetOf, meaningPosition, meaningEnds, mapMu}
+use Rattle.grammar.specs.Numbers.{Numeral.numeral, Faultless, offsetNumbers, basedNumbers, positionNumbers, endsNumbers, muNumbers}
+use Rattle.grammar.specs.NumberLaws.{allPlain, one-fits, one-plain, faultless-both, plain-both}
 use Rattle.lang.specs.MuCanon.{settledMu}
 use Rattle.location.specs.Equal.{eqℤ, eqPosition, eq-refl}
 use Rattle.location.specs.Canon.{canonOffset, marked, canonBase, canonBased, canonPosition}
@@ -74,7 +74,7 @@ abbrev pub settledLocation : (k : Kind) → Location k → Bool
 settledLocation k = settledMu (settledEnds k)
 
 -- ---- c, n, r
-settled-offset : (k : ℕ) (o : Offset) → WfOffset o → misfit (offsetNumbers k o) ≡ none → allPlain (offsetNumbers k o) ≡ true → canonOffset (offsetOf o) ≡ some o
+settled-offset : (k : ℕ) (o : Offset) → WfOffset o → Faultless (offsetNumbers k o) → allPlain (offsetNumbers k o) ≡ true → canonOffset (offsetOf o) ≡ some o
 settled-offset k absent w f p = refl
 settled-offset k (ahead ds) w f p =
     let h = one-fits (k + 1) Plain ds f in
@@ -89,16 +89,16 @@ settled-base plus ds w h p e = absurd (clash e refl)
 settled-base minus ds w h p e = let m = minus-plain ds w h p in rw (m .value, m .found)
 settled-base star ds w h p e = rw (unsigned-plain ds w h p)
 
-settled-based : (i : ℕ) (m : Mark) (ds : List ℕ) (o : Offset) → WfBased (based m ds o) → misfit (basedNumbers i (based m ds o)) ≡ none → allPlain (basedNumbers i (based m ds o)) ≡ true → plainMark m ≡ true
+settled-based : (i : ℕ) (m : Mark) (ds : List ℕ) (o : Offset) → WfBased (based m ds o) → Faultless (basedNumbers i (based m ds o)) → allPlain (basedNumbers i (based m ds o)) ≡ true → plainMark m ≡ true
     → canonBased (fromOf m) (number (signOf m) ds) (offsetOf o) ≡ some (based m ds o)
 settled-based i m ds o w f p e =
     let k = i + length (printMark m) in
-    let g = misfit-both (numeral k (signOf m) ds ∷ []) (offsetNumbers (k + length ds) o) f in
+    let g = faultless-both (numeral k (signOf m) ds ∷ []) (offsetNumbers (k + length ds) o) f in
     let q = plain-both (numeral k (signOf m) ds ∷ []) (offsetNumbers (k + length ds) o) p in
     rw (settled-base m ds (w .0) (one-fits k (signOf m) ds (g .0)) (one-plain k (signOf m) ds (q .0)) e, settled-offset (k + length ds) o (w .1) (g .1) (q .1))
 
 -- ---- every kind
-settled-position : (k : Kind) (i : ℕ) (t : Position k) → WfPosition k t → misfit (positionNumbers k i t) ≡ none → allPlain (positionNumbers k i t) ≡ true → settledPosition k t ≡ true → canonPosition k (meaningPosition k t) ≡ some t
+settled-position : (k : Kind) (i : ℕ) (t : Position k) → WfPosition k t → Faultless (positionNumbers k i t) → allPlain (positionNumbers k i t) ≡ true → settledPosition k t ≡ true → canonPosition k (meaningPosition k t) ≡ some t
 settled-position Cds i (based m ds o) w f p e = settled-based i m ds o w f p e
 settled-position Genome i (known ds) w f p e = rw (unsigned-plain ds w (one-fits i Plain ds f) (one-plain i Plain ds p))
 settled-position Genome i unknown w f p e = refl
@@ -126,17 +126,17 @@ apart Prot (residual r ds) (residual s es) e = rw e (and-false (same r s))
 apart Rna (based m ds o) (based n es q) e = rw e
 
 module _ (k : Kind) where
-  pub settled-ends : (i : ℕ) (t : Ends k) → WfEnds k t → misfit (endsNumbers k i t) ≡ none → allPlain (endsNumbers k i t) ≡ true → settledEnds k t ≡ true → endsCanon k .canon (meaningEnds k t) ≡ some t
+  pub settled-ends : (i : ℕ) (t : Ends k) → WfEnds k t → Faultless (endsNumbers k i t) → allPlain (endsNumbers k i t) ≡ true → settledEnds k t ≡ true → endsCanon k .canon (meaningEnds k t) ≡ some t
   settled-ends i (one t) w f p e = rw (eq-refl k (meaningPosition k t), settled-position k i t w f p e)
   settled-ends i (two t u) w f p e =
       let j = i + length (printPosition k t) + 1 in
-      let g = misfit-both (positionNumbers k i t) (positionNumbers k j u) f in
+      let g = faultless-both (positionNumbers k i t) (positionNumbers k j u) f in
       let q = plain-both (positionNumbers k i t) (positionNumbers k j u) p in
       let h = and-true (not (eqℤ (numberIn k t) (numberIn k u))) (settledPosition k t && settledPosition k u) e in
       let s = and-true (settledPosition k t) (settledPosition k u) (h .1) in
       rw (apart k t u (not-true (eqℤ (numberIn k t) (numberIn k u)) (h .0)), settled-position k i t (w .0) (g .0) (q .0) (s .0), settled-position k j u (w .1) (g .1) (q .1) (s .1))
 
-  pub settled-location : (i : ℕ) (t : Location k) → WfLocation k t → misfit (muNumbers (endsNumbers k) i t) ≡ none → allPlain (muNumbers (endsNumbers k) i t) ≡ true → settledLocation k t ≡ true
+  pub settled-location : (i : ℕ) (t : Location k) → WfLocation k t → Faultless (muNumbers (endsNumbers k) i t) → allPlain (muNumbers (endsNumbers k) i t) ≡ true → settledLocation k t ≡ true
       → locationCanon k .canon (mapMu (meaningEnds k) t) ≡ some t
   settled-location i (certain t) w f p e = rw (settled-ends i t w f p e)
   settled-location i (uncertain t) w f p e = rw (settled-ends (i + 1) t w f p e)

@@ -2,6 +2,7 @@
 use body_width::BodyWidth;
 use plan_text::TextPlan;
 use record::HgvsVariant;
+use record::Refusal;
 use record::WidthAnswer;
 use record::Wording;
 ghost use Rattle.grammar.specs.Texts.{allLetters};
@@ -13,17 +14,17 @@ pub fn width(source: &[u8], v: HgvsVariant) -> WidthAnswer
     ensures { λ r. ⌜ Measures allLetters (now (source .entry)) v (widthOutcome r) ⌝ }
 {
     if 4096 < source.len() {
-        return WidthAnswer::TooLong;
+        return WidthAnswer::Refused(Refusal::TooLong);
     }
     if !record_inside::spans_inside(source.len(), v) {
-        return WidthAnswer::BadSpan;
+        return WidthAnswer::Refused(Refusal::BadSpan);
     }
     let TextPlan::Text(_) = plan_text::plan_text(source, Wording::Shortest, v) else {
-        return WidthAnswer::NoText;
+        return WidthAnswer::Refused(Refusal::NoText);
     };
     let body = v.body;
     match body_width::body_width(body) {
-        BodyWidth::NoWidth => WidthAnswer::NoWidth,
+        BodyWidth::NoWidth => WidthAnswer::Refused(Refusal::NoWidth),
         BodyWidth::Width(n) => WidthAnswer::Width(n),
     }
 }

@@ -2,7 +2,7 @@
 use Prim.Native.Nat.{ℕ, _+_, _<_}
 use mathlib.Core.Path.{_≡_, refl, ap}
 use mathlib.Core.List.{List, [], _∷_}
-use mathlib.Core.Option.{none, some}
+use mathlib.Core.Option.{some}
 use mathlib.Core.Bool.{Bool, true, false, _&&_}
 use native.Mathlib.Omega.{arith}
 use lib.Dec.{leb}
@@ -22,8 +22,8 @@ use Rattle.grammar.specs.NucleotideEdits.{NaEdit, NaEdit.equal, NaEdit.swap, Na
 use Rattle.grammar.specs.Values as Values
 use Rattle.grammar.specs.Values.{NaEditV, NaEditV.refAlt, NaEditV.numAlt, NaEditV.delRef, NaEditV.insV, NaEditV.dupV, NaEditV.invRef}
 use Rattle.grammar.specs.Meaning.{number, meaningNaEdit}
-use Rattle.grammar.specs.Numbers.{Numeral.numeral, misfit, naEditNumbers, muNumbers}
-use Rattle.grammar.specs.NumberLaws.{one-fits, fits-one, one-anywhere}
+use Rattle.grammar.specs.Numbers.{Numeral.numeral, Faultless, naEditNumbers, muNumbers}
+use Rattle.grammar.specs.NumberLaws.{one-fits, none-faultless, written-faultless, one-anywhere}
 use Rattle.lang.specs.Canon.{Canon, Right, Covered, mapO, map-some}
 use Rattle.lang.specs.MuCanon.{mu-canon}
 use Rattle.na_edits.specs.Alphabet.{Alphabet}
@@ -34,23 +34,23 @@ use Rattle.na_edits.specs.Canon.{canonRefAlt, canonNaEdit}
 
 -- ---- numbers that fit
 abbrev pub FitsNaEdit : NaEdit → Type 0
-FitsNaEdit t = misfit (naEditNumbers 0 t) ≡ none
+FitsNaEdit t = Faultless (naEditNumbers 0 t)
 
 -- whether an edit's number fits does not depend on where the edit stands
-pub fits-anywhere : (j k : ℕ) (t : NaEdit) → misfit (naEditNumbers j t) ≡ none → misfit (naEditNumbers k t) ≡ none
-fits-anywhere j k (equal seq) e = refl
-fits-anywhere j k (swap a b) e = refl
-fits-anywhere j k (delIns seq seq1) e = refl
+pub fits-anywhere : (j k : ℕ) (t : NaEdit) → Faultless (naEditNumbers j t) → Faultless (naEditNumbers k t)
+fits-anywhere j k (equal seq) e = none-faultless
+fits-anywhere j k (swap a b) e = none-faultless
+fits-anywhere j k (delIns seq seq1) e = none-faultless
 fits-anywhere j k (delNumIns ds seq1) e = one-anywhere (j + 3) (k + 3) Plain ds e
 fits-anywhere j k (delNum ds) e = one-anywhere (j + 3) (k + 3) Plain ds e
-fits-anywhere j k (del seq) e = refl
-fits-anywhere j k (ins seq1) e = refl
-fits-anywhere j k (dup seq) e = refl
+fits-anywhere j k (del seq) e = none-faultless
+fits-anywhere j k (ins seq1) e = none-faultless
+fits-anywhere j k (dup seq) e = none-faultless
 fits-anywhere j k (invNum ds) e = one-anywhere (j + 3) (k + 3) Plain ds e
-fits-anywhere j k (inv seq) e = refl
+fits-anywhere j k (inv seq) e = none-faultless
 
 -- the tree of a count that fits is found with its decimal text
-counted : (f : List ℕ → NaEdit) (k : ℕ) (ds : List ℕ) → misfit (numeral k Plain ds ∷ []) ≡ none → mapO f (unsignedDigits (number Plain ds)) ≡ some (f (dec (val ds)))
+counted : (f : List ℕ → NaEdit) (k : ℕ) (ds : List ℕ) → Faultless (numeral k Plain ds ∷ []) → mapO f (unsignedDigits (number Plain ds)) ≡ some (f (dec (val ds)))
 counted f k ds e = ap (mapO f) (unsigned-found (val ds) (one-fits k Plain ds e))
 
 module _ (na : ℕ → Bool) (al : Alphabet na) where
@@ -69,17 +69,17 @@ module _ (na : ℕ → Bool) (al : Alphabet na) where
           let h : some (equal a) ≡ some t = rw p at e in
           let i : equal a ≡ t = cc in
           let j = same-true a b p in
-          rw (← i) (record { wf = ha; fits = refl; means = cc })
+          rw (← i) (record { wf = ha; fits = none-faultless; means = cc })
       go false true z p q r =
           let h : some (swap (getD a 0 0) (getD b 0 0)) ≡ some t = rw (p, q) at e in
           let i : swap (getD a 0 0) (getD b 0 0) ≡ t = cc in
           let ja = one-each a b q .0 in
           let jb = one-each a b q .1 in
-          rw (← i) (record { wf = (every-one na _ (rw ja at ha), every-one na _ (rw jb at hb)); fits = refl; means = cc })
+          rw (← i) (record { wf = (every-one na _ (rw ja at ha), every-one na _ (rw jb at hb)); fits = none-faultless; means = cc })
       go false false true p q r =
           let h : some (delIns a b) ≡ some t = rw (p, q, r) at e in
           let i : delIns a b ≡ t = cc in
-          rw (← i) (record { wf = (ha, record { some = leb-true _ _ r; all = hb }); fits = refl; means = refl })
+          rw (← i) (record { wf = (ha, record { some = leb-true _ _ r; all = hb }); fits = none-faultless; means = refl })
       go false false false p q r = absurd (none-some (rw (p, q, r) at e))
 
   -- one or more letters
@@ -98,19 +98,19 @@ module _ (na : ℕ → Bool) (al : Alphabet na) where
       let h = cond-some (every na b && leb 1 (length b)) (mapO (λ ds. delNumIns ds b) (unsignedDigits n)) t e in
       let m = map-some (λ ds. delNumIns ds b) (unsignedDigits n) t (h .1) in
       let w = unsigned-written n (m .0) (m .1 .0) in
-      rw (← m .1 .1) (record { wf = (w .digits, some-letters b (h .0)); fits = fits-one 3 Plain (m .0) (w .fit); means = rw (w .value) })
-  right (delRef a) t e = if-holds (RightEdit (delRef a)) (every na a) (del a) t e (λ h. record { wf = h; fits = refl; means = refl })
+      rw (← m .1 .1) (record { wf = (w .digits, some-letters b (h .0)); fits = written-faultless 3 w; means = rw (w .value) })
+  right (delRef a) t e = if-holds (RightEdit (delRef a)) (every na a) (del a) t e (λ h. record { wf = h; fits = none-faultless; means = refl })
   right (Values.NaEditV.delNum n) t e =
       let m = map-some delNum (unsignedDigits n) t e in
       let w = unsigned-written n (m .0) (m .1 .0) in
-      rw (← m .1 .1) (record { wf = w .digits; fits = fits-one 3 Plain (m .0) (w .fit); means = rw (w .value) })
-  right (insV b) t e = if-holds (RightEdit (insV b)) (every na b && leb 1 (length b)) (ins b) t e (λ h. record { wf = some-letters b h; fits = refl; means = refl })
-  right (dupV a) t e = if-holds (RightEdit (dupV a)) (every na a) (dup a) t e (λ h. record { wf = h; fits = refl; means = refl })
-  right (invRef a) t e = if-holds (RightEdit (invRef a)) (every na a) (inv a) t e (λ h. record { wf = h; fits = refl; means = refl })
+      rw (← m .1 .1) (record { wf = w .digits; fits = written-faultless 3 w; means = rw (w .value) })
+  right (insV b) t e = if-holds (RightEdit (insV b)) (every na b && leb 1 (length b)) (ins b) t e (λ h. record { wf = some-letters b h; fits = none-faultless; means = refl })
+  right (dupV a) t e = if-holds (RightEdit (dupV a)) (every na a) (dup a) t e (λ h. record { wf = h; fits = none-faultless; means = refl })
+  right (invRef a) t e = if-holds (RightEdit (invRef a)) (every na a) (inv a) t e (λ h. record { wf = h; fits = none-faultless; means = refl })
   right (Values.NaEditV.invNum n) t e =
       let m = map-some invNum (unsignedDigits n) t e in
       let w = unsigned-written n (m .0) (m .1 .0) in
-      rw (← m .1 .1) (record { wf = w .digits; fits = fits-one 3 Plain (m .0) (w .fit); means = rw (w .value) })
+      rw (← m .1 .1) (record { wf = w .digits; fits = written-faultless 3 w; means = rw (w .value) })
 
   -- ---- and no tree of the value has a better text
   covers-delIns : (a b : List ℕ) → every na a ≡ true → Some na b → CoveredEdit (delIns a b)
@@ -159,10 +159,10 @@ module _ (na : ℕ → Bool) (al : Alphabet na) where
   muNaEditCanon = mu-canon (naEditLang na al) (brackets na al) naEditCanon
 
 -- its fit is that of its numbers, wherever it stands
-pub mu-fits : (k : ℕ) (t : Mu NaEdit) → WfMu FitsNaEdit t → misfit (muNumbers naEditNumbers k t) ≡ none
+pub mu-fits : (k : ℕ) (t : Mu NaEdit) → WfMu FitsNaEdit t → Faultless (muNumbers naEditNumbers k t)
 mu-fits k (certain e) f = fits-anywhere 0 k e f
 mu-fits k (uncertain e) f = fits-anywhere 0 (k + 1) e f
 
-pub fits-mu : (k : ℕ) (t : Mu NaEdit) → misfit (muNumbers naEditNumbers k t) ≡ none → WfMu FitsNaEdit t
+pub fits-mu : (k : ℕ) (t : Mu NaEdit) → Faultless (muNumbers naEditNumbers k t) → WfMu FitsNaEdit t
 fits-mu k (certain e) f = fits-anywhere k 0 e f
 fits-mu k (uncertain e) f = fits-anywhere (k + 1) 0 e f

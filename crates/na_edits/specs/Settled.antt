@@ -2,7 +2,7 @@
 use Prim.Native.Nat.{ℕ, _+_}
 use mathlib.Core.Path.{_≡_, sym, ap, _∙_}
 use mathlib.Core.List.{List, [], _∷_}
-use mathlib.Core.Option.{none, some}
+use mathlib.Core.Option.{some}
 use mathlib.Core.Bool.{Bool, true, false, not}
 use lib.Dec.{eqb}
 use lib.ListN.{length}
@@ -17,7 +17,7 @@ use Rattle.grammar.specs.Positions.{Digits}
 use Rattle.grammar.specs.Shapes.{Mu, Mu.certain, Mu.uncertain, WfMu}
 use Rattle.grammar.specs.NucleotideEdits.{NaEdit, NaEdit.equal, NaEdit.swap, NaEdit.delIns, NaEdit.delNumIns, NaEdit.delNum, NaEdit.del, NaEdit.ins, NaEdit.dup, NaEdit.invNum, NaEdit.inv, WfNaEdit}
 use Rattle.grammar.specs.Meaning.{number, mapMu, meaningNaEdit}
-use Rattle.grammar.specs.Numbers.{Numeral.numeral, misfit, naEditNumbers, muNumbers}
+use Rattle.grammar.specs.Numbers.{Numeral.numeral, Faultless, naEditNumbers, muNumbers}
 use Rattle.grammar.specs.NumberLaws.{allPlain, one-fits, one-plain}
 use Rattle.lang.specs.MuCanon.{settledMu}
 use Rattle.na_edits.specs.Alphabet.{Alphabet}
@@ -38,7 +38,7 @@ settledNaEdit (invNum ds) = true
 settledNaEdit (inv seq) = true
 
 -- a count
-counted : (k : ℕ) (ds : List ℕ) → Digits ds → misfit (numeral k Plain ds ∷ []) ≡ none → allPlain (numeral k Plain ds ∷ []) ≡ true → unsignedDigits (number Plain ds) ≡ some ds
+counted : (k : ℕ) (ds : List ℕ) → Digits ds → Faultless (numeral k Plain ds ∷ []) → allPlain (numeral k Plain ds ∷ []) ≡ true → unsignedDigits (number Plain ds) ≡ some ds
 counted k ds d f p = unsigned-plain ds d (one-fits k Plain ds f) (one-plain k Plain ds p)
 
 letters-differ : (x y : ℕ) → not (eqb x y) ≡ true → same (x ∷ []) (y ∷ []) ≡ false
@@ -59,7 +59,7 @@ module _ (a b : List ℕ) (e : not (eqb (length a) (length b)) ≡ true) where
       lengths-differ (eqb-true (length a) 1 (o .0) ∙ sym (eqb-true (length b) 1 (o .1))))
 
 module _ (na : ℕ → Bool) (al : Alphabet na) where
-  settled-edit : (k : ℕ) (t : NaEdit) → WfNaEdit na t → misfit (naEditNumbers k t) ≡ none → allPlain (naEditNumbers k t) ≡ true → settledNaEdit t ≡ true → canonNaEdit na (meaningNaEdit t) ≡ some t
+  settled-edit : (k : ℕ) (t : NaEdit) → WfNaEdit na t → Faultless (naEditNumbers k t) → allPlain (naEditNumbers k t) ≡ true → settledNaEdit t ≡ true → canonNaEdit na (meaningNaEdit t) ≡ some t
   settled-edit k (equal seq) w f p e = rw (w, same-refl seq)
   settled-edit k (swap a b) w f p e = rw (one-every na a (w .0), one-every na b (w .1), letters-differ a b e)
   settled-edit k (delIns seq seq1) w f p e = rw (w .0, w .1 .all, not-same seq seq1 e, not-one-each seq seq1 e, le-leb 1 (length seq1) (w .1 .some))
@@ -71,7 +71,7 @@ module _ (na : ℕ → Bool) (al : Alphabet na) where
   settled-edit k (invNum ds) w f p e = rw (counted (k + 3) ds w f p)
   settled-edit k (inv seq) w f p e = rw w
 
-  pub settled-na-edit : (k : ℕ) (t : Mu NaEdit) → WfMu (WfNaEdit na) t → misfit (muNumbers naEditNumbers k t) ≡ none → allPlain (muNumbers naEditNumbers k t) ≡ true → settledMu settledNaEdit t ≡ true
+  pub settled-na-edit : (k : ℕ) (t : Mu NaEdit) → WfMu (WfNaEdit na) t → Faultless (muNumbers naEditNumbers k t) → allPlain (muNumbers naEditNumbers k t) ≡ true → settledMu settledNaEdit t ≡ true
       → muNaEditCanon na al .canon (mapMu meaningNaEdit t) ≡ some t
   settled-na-edit k (certain t) w f p e = rw (settled-edit k t w f p e)
   settled-na-edit k (uncertain t) w f p e = rw (settled-edit (k + 1) t w f p e)

@@ -1,10 +1,11 @@
 // What an operation on a text answers, in numbers: for C, and for the line program.
 use record::ReadAnswer;
+use record::Refusal;
 use record::WidthAnswer;
 use record::WriteAnswer;
 ghost use mathlib.Core.Path.{_≡_};
-ghost use Rattle.promise.specs.Outcome.{readOutcome, writeOutcome, widthOutcome};
-ghost use Rattle.numbered.specs.Numbered.{bareAnswer, numbered, readNumbers};
+ghost use Rattle.promise.specs.Outcome.{Outcome.given, readOutcome, writeOutcome, widthOutcome};
+ghost use Rattle.numbered.specs.Numbered.{bareAnswer, refusalNumbers, numbered, readNumbers};
 
 // Document 01's number, 0 where the text was accepted; the place; and the length or width, 0 where it was refused.
 #[repr(C)]
@@ -25,14 +26,38 @@ pub fn bare(number: u64, place: u64) -> Answer
     }
 }
 
+pub fn of_refusal(r: Refusal) -> Answer
+    ensures { λ a. ⌜ a ≡ refusalNumbers r ⌝ }
+{
+    match r {
+        Refusal::TooLong => bare(1, 0),
+        Refusal::NotInGrammar => bare(2, 0),
+        Refusal::DoesNotFit(place) => bare(3, place as u64),
+        Refusal::BadSpan => bare(4, 0),
+        Refusal::NoText => bare(5, 0),
+        Refusal::NoRoom => bare(6, 0),
+        Refusal::NoWidth => bare(7, 0),
+        Refusal::BadLine => bare(8, 0),
+    }
+}
+
 pub fn of_read(a: ReadAnswer) -> Answer
     ensures { λ r. ⌜ r ≡ readNumbers (readOutcome a) ⌝ }
 {
     match a {
         ReadAnswer::Accepted(_) => bare(0, 0),
-        ReadAnswer::TooLong => bare(1, 0),
-        ReadAnswer::NotInGrammar => bare(2, 0),
-        ReadAnswer::DoesNotFit(place) => bare(3, place as u64),
+        ReadAnswer::Refused(r) => of_refusal(r),
+    }
+}
+
+// A length or a width.
+fn of_value(value: u64) -> Answer
+    ensures { λ r. ⌜ r ≡ numbered (given value) ⌝ }
+{
+    Answer {
+        number: 0,
+        place: 0,
+        value,
     }
 }
 
@@ -40,15 +65,8 @@ pub fn of_write(a: WriteAnswer) -> Answer
     ensures { λ r. ⌜ r ≡ numbered (writeOutcome a) ⌝ }
 {
     match a {
-        WriteAnswer::Written(n) => Answer {
-            number: 0,
-            place: 0,
-            value: n as u64,
-        },
-        WriteAnswer::TooLong => bare(1, 0),
-        WriteAnswer::BadSpan => bare(4, 0),
-        WriteAnswer::NoText => bare(5, 0),
-        WriteAnswer::NoRoom => bare(6, 0),
+        WriteAnswer::Written(n) => of_value(n as u64),
+        WriteAnswer::Refused(r) => of_refusal(r),
     }
 }
 
@@ -56,14 +74,7 @@ pub fn of_width(a: WidthAnswer) -> Answer
     ensures { λ r. ⌜ r ≡ numbered (widthOutcome a) ⌝ }
 {
     match a {
-        WidthAnswer::Width(n) => Answer {
-            number: 0,
-            place: 0,
-            value: n,
-        },
-        WidthAnswer::TooLong => bare(1, 0),
-        WidthAnswer::BadSpan => bare(4, 0),
-        WidthAnswer::NoText => bare(5, 0),
-        WidthAnswer::NoWidth => bare(7, 0),
+        WidthAnswer::Width(n) => of_value(n),
+        WidthAnswer::Refused(r) => of_refusal(r),
     }
 }

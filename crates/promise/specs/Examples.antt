@@ -32,12 +32,14 @@ use Rattle.record.specs.declared.ProtLocEdit.the-variants.{Ordinary, NoChange, 
 use Rattle.record.specs.declared.Body.{Body}
 use Rattle.record.specs.declared.Body.the-variants as Bo
 use Rattle.record.specs.declared.HgvsVariant.{HgvsVariant}
+use Rattle.record.specs.declared.Refusal.{Refusal}
+use Rattle.record.specs.declared.Refusal.the-variants.{TooLong, NotInGrammar, DoesNotFit, BadSpan, NoText, NoRoom, NoWidth, BadLine}
 use Rattle.record.specs.declared.ReadAnswer.the-variants as R
 use Rattle.record.specs.declared.WriteAnswer.the-variants as W
 use Rattle.record.specs.declared.WidthAnswer.the-variants as M
 use Rattle.grammar.specs.Shapes.{Mu.uncertain, printMu}
 use Rattle.grammar.specs.Values.{NaEditV.refAlt, NaEditV.numAlt, NaEditV.delRef, NaEditV.delNum, NaEditV.insV, NaEditV.dupV, NaEditV.invRef, NaEditV.invNum}
-use Rattle.promise.specs.Outcome.{Outcome, outcomeNumber, outcomePlace, outcomeValue, readOutcome, writeOutcome, widthOutcome, limit}
+use Rattle.promise.specs.Outcome.{Outcome, outcomeNumber, outcomePlace, outcomeValue, refusalOutcome, readOutcome, writeOutcome, widthOutcome, limit}
 use Rattle.promise.specs.NoRef.{noRefEdit}
 use Rattle.promise.specs.Width.{widthBetween, bodyWidth}
 
@@ -47,22 +49,22 @@ told o = (outcomeNumber o, outcomePlace o)
 
 -- of an accepted record v, and a misfit at a place
 module _ (v : HgvsVariant) (place : ℕ) where
+  abbrev refusedWith : Refusal → ℕ × ℕ
+  refusedWith r = told {A = HgvsVariant} (refusalOutcome r)
+
   abbrev pub outcomes : List ((ℕ × ℕ) × (ℕ × ℕ))
   outcomes =
       (told (readOutcome (R.Accepted v)), (0, 0)) ∷
-      (told (readOutcome R.TooLong), (1, 0)) ∷
-      (told (readOutcome R.NotInGrammar), (2, 0)) ∷
-      (told (readOutcome (R.DoesNotFit place)), (3, place)) ∷
       (told (writeOutcome (W.Written 15)), (0, 0)) ∷
-      (told (writeOutcome W.TooLong), (1, 0)) ∷
-      (told (writeOutcome W.BadSpan), (4, 0)) ∷
-      (told (writeOutcome W.NoText), (5, 0)) ∷
-      (told (writeOutcome W.NoRoom), (6, 0)) ∷
       (told (widthOutcome (M.Width 3)), (0, 0)) ∷
-      (told (widthOutcome M.TooLong), (1, 0)) ∷
-      (told (widthOutcome M.BadSpan), (4, 0)) ∷
-      (told (widthOutcome M.NoText), (5, 0)) ∷
-      (told (widthOutcome M.NoWidth), (7, 0)) ∷
+      (refusedWith TooLong, (1, 0)) ∷
+      (refusedWith NotInGrammar, (2, 0)) ∷
+      (refusedWith (DoesNotFit place), (3, place)) ∷
+      (refusedWith BadSpan, (4, 0)) ∷
+      (refusedWith NoText, (5, 0)) ∷
+      (refusedWith NoRoom, (6, 0)) ∷
+      (refusedWith NoWidth, (7, 0)) ∷
+      (refusedWith BadLine, (8, 0)) ∷
       []
 
   pub outcomes-agree : Each Agree outcomes
@@ -72,9 +74,9 @@ module _ (v : HgvsVariant) (place : ℕ) where
 abbrev pub values : List (ℕ × ℕ)
 values =
     (outcomeValue (writeOutcome (W.Written 15)), 15) ∷
-    (outcomeValue (writeOutcome W.NoRoom), 0) ∷
+    (outcomeValue (writeOutcome (W.Refused NoRoom)), 0) ∷
     (outcomeValue (widthOutcome (M.Width 3)), 3) ∷
-    (outcomeValue (widthOutcome M.NoWidth), 0) ∷
+    (outcomeValue (widthOutcome (M.Refused NoWidth)), 0) ∷
     (limit, 4096) ∷
     []
 

@@ -2,7 +2,6 @@
 use Prim.Native.Nat.{ℕ}
 use mathlib.Core.Path.{_≡_}
 use mathlib.Core.List.{List, _++_}
-use mathlib.Core.Option.{none}
 use mathlib.Core.Bool.{Bool, cond}
 use Rattle.texts.specs.Ascii.{ascii}
 use Rattle.texts.specs.Words.{same, oneEach}
@@ -13,7 +12,7 @@ use Rattle.grammar.specs.Shapes.{Mu, Both.both, printMu}
 use Rattle.grammar.specs.Bodies.{printLocation, WfLocation}
 use Rattle.grammar.specs.Values.{NaEditV, NaEditV.refAlt, NaEditV.numAlt, NaEditV.delRef, NaEditV.delNum, NaEditV.insV, NaEditV.dupV, NaEditV.invRef, NaEditV.invNum, EndsV, NaBodyV, HeaderV, Value, Value.value}
 use Rattle.grammar.specs.Meaning.{meaningHeader, meaningEnds, mapMu}
-use Rattle.grammar.specs.Numbers.{misfit, muNumbers, endsNumbers}
+use Rattle.grammar.specs.Numbers.{Faultless, muNumbers, endsNumbers}
 use Rattle.grammar.specs.Reads.{BestText}
 use Rattle.promise.specs.Writing.{ShortestText}
 
@@ -33,7 +32,7 @@ abbrev pub ShortestHeader : List ℕ → HeaderV → Type 0
 ShortestHeader = BestText printHeader WfHeader (λ h. Unit) meaningHeader
 
 abbrev pub ShortestLocation : (k : Kind) → List ℕ → Mu (EndsV k) → Type 0
-ShortestLocation k = BestText (printLocation k) (WfLocation k) (λ l. misfit (muNumbers (endsNumbers k) 0 l) ≡ none) (mapMu (meaningEnds k))
+ShortestLocation k = BestText (printLocation k) (WfLocation k) (λ l. Faultless (muNumbers (endsNumbers k) 0 l)) (mapMu (meaningEnds k))
 
 -- brackets stay
 pub record NoRefParts (h : HeaderV) (k : Kind) (l : Mu (EndsV k)) (e : Mu NaEditV) (t : List ℕ) : Type 0 where

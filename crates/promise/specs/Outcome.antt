@@ -1,6 +1,8 @@
--- Document 01, "Numbers given back": the number and place of each case of each answer, and what it carries.
+-- Document 01, "Numbers given back": the number and place of each refusal, and what each answer carries.
 use Prim.Native.Nat.{ℕ}
 use Rattle.record.specs.declared.HgvsVariant.{HgvsVariant}
+use Rattle.record.specs.declared.Refusal.{Refusal}
+use Rattle.record.specs.declared.Refusal.the-variants.{TooLong, NotInGrammar, DoesNotFit, BadSpan, NoText, NoRoom, NoWidth, BadLine}
 use Rattle.record.specs.declared.ReadAnswer.{ReadAnswer}
 use Rattle.record.specs.declared.ReadAnswer.the-variants as R
 use Rattle.record.specs.declared.WriteAnswer.{WriteAnswer}
@@ -28,25 +30,31 @@ abbrev pub outcomeValue : Outcome ℕ → ℕ
 outcomeValue (given n) = n
 outcomeValue (refused number place) = 0
 
+-- each refusal's number and place, in the table's order
+abbrev pub numberAndPlace : Refusal → ℕ × ℕ
+numberAndPlace TooLong = (1, 0)
+numberAndPlace NotInGrammar = (2, 0)
+numberAndPlace (DoesNotFit place) = (3, place)
+numberAndPlace BadSpan = (4, 0)
+numberAndPlace NoText = (5, 0)
+numberAndPlace NoRoom = (6, 0)
+numberAndPlace NoWidth = (7, 0)
+numberAndPlace BadLine = (8, 0)
+
+abbrev pub refusalOutcome : {A : Type 0} → Refusal → Outcome A
+refusalOutcome r = refused (numberAndPlace r .0) (numberAndPlace r .1)
+
 abbrev pub readOutcome : ReadAnswer → Outcome HgvsVariant
 readOutcome (R.Accepted v) = given v
-readOutcome R.TooLong = refused 1 0
-readOutcome R.NotInGrammar = refused 2 0
-readOutcome (R.DoesNotFit place) = refused 3 place
+readOutcome (R.Refused r) = refusalOutcome r
 
 abbrev pub writeOutcome : WriteAnswer → Outcome ℕ
 writeOutcome (W.Written length) = given length
-writeOutcome W.TooLong = refused 1 0
-writeOutcome W.BadSpan = refused 4 0
-writeOutcome W.NoText = refused 5 0
-writeOutcome W.NoRoom = refused 6 0
+writeOutcome (W.Refused r) = refusalOutcome r
 
 abbrev pub widthOutcome : WidthAnswer → Outcome ℕ
 widthOutcome (M.Width width) = given width
-widthOutcome M.TooLong = refused 1 0
-widthOutcome M.BadSpan = refused 4 0
-widthOutcome M.NoText = refused 5 0
-widthOutcome M.NoWidth = refused 7 0
+widthOutcome (M.Refused r) = refusalOutcome r
 
 -- the most bytes of a text or source
 abbrev pub limit : ℕ

@@ -2,7 +2,7 @@
 use Prim.Native.Nat.{ℕ}
 use mathlib.Core.Path.{_≡_, refl, sym, ap, _∙_}
 use mathlib.Core.List.{List, _++_}
-use mathlib.Core.Option.{none, some}
+use mathlib.Core.Option.{some}
 use mathlib.Core.Bool.{Bool, cond}
 use native.Mathlib.Omega.{arith}
 use lib.Dec.{eqb}
@@ -11,6 +11,8 @@ use Rattle.texts.specs.Tests.{clash, none-some}
 use Rattle.record.specs.declared.Kind.{Kind}
 use Rattle.record.specs.declared.Kind.the-variants.{Cds, Genome, Mt, Tx, Prot, Rna}
 use Rattle.record.specs.declared.HgvsVariant.{HgvsVariant}
+use Rattle.record.specs.declared.Refusal.{Refusal}
+use Rattle.record.specs.declared.Refusal.the-variants.{TooLong, NotInGrammar, DoesNotFit, BadSpan, NoText, NoRoom, NoWidth, BadLine}
 use Rattle.record.specs.declared.ReadAnswer.{ReadAnswer}
 use Rattle.record.specs.declared.ReadAnswer.the-variants as R
 use Rattle.record.specs.declared.WriteAnswer.{WriteAnswer}
@@ -23,53 +25,70 @@ use Rattle.grammar.specs.Bodies.{printLocation, WfLocation}
 use Rattle.grammar.specs.Texts.{Text, print, Wf}
 use Rattle.grammar.specs.Values.{HeaderV, NaBodyV, Value, Value.value}
 use Rattle.grammar.specs.Meaning.{meaning, meaningHeader, meaningEnds, mapMu}
-use Rattle.grammar.specs.Numbers.{misfit, muNumbers, endsNumbers}
+use Rattle.grammar.specs.Numbers.{Faultless, muNumbers, endsNumbers, numbersAt, FaultlessText}
+use Rattle.grammar.specs.NumberLaws.{faultless-fits}
 use Rattle.grammar.specs.Records.{recordAt}
 use Rattle.grammar.specs.Reads.{best-unique}
-use Rattle.promise.specs.Outcome.{Outcome, Outcome.given, Outcome.refused, readOutcome, writeOutcome, widthOutcome}
+use Rattle.promise.specs.Outcome.{Outcome, Outcome.given, Outcome.refused, numberAndPlace, readOutcome, writeOutcome, widthOutcome}
 use Rattle.promise.specs.Reading.{TreeOf, Reads, Reads.tooLong, Reads.notInGrammar, Reads.doesNotFit, Reads.accepted}
-use Rattle.promise.specs.Writing.{Sound, Unsound, Unsound.tooLong, Unsound.badSpan, Unsound.noText, Writes, ToWrite, Fits}
+use Rattle.promise.specs.Writing.{Sound, Unsound, Unsound.tooLong, Unsound.badSpan, Unsound.noText, Writes, ToWrite}
 use Rattle.promise.specs.NoRef.{NaNoRef, NoRefText}
 use Rattle.promise.specs.Width.{Measures, Measures.unsound, Measures.noWidth, Measures.measured}
 
--- ---- each case of an answer has its own number, place and value: the case is found from them
-readCase : Outcome HgvsVariant → ReadAnswer
-readCase (given v) = R.Accepted v
-readCase (refused n place) = cond (eqb n 1) R.TooLong (cond (eqb n 2) R.NotInGrammar (R.DoesNotFit place))
+-- ---- number and place determine the refusal: it is found from them
+called : ℕ → ℕ → Refusal
+called n place =
+    cond (eqb n 1) TooLong
+    (cond (eqb n 2) NotInGrammar
+    (cond (eqb n 3) (DoesNotFit place)
+    (cond (eqb n 4) BadSpan
+    (cond (eqb n 5) NoText
+    (cond (eqb n 6) NoRoom
+    (cond (eqb n 7) NoWidth BadLine))))))
 
-read-case : (a : ReadAnswer) → readCase (readOutcome a) ≡ a
-unfolding readCase
-read-case (R.Accepted v) = refl
-read-case R.TooLong = refl
-read-case R.NotInGrammar = refl
-read-case (R.DoesNotFit k) = refl
+refusal-called : (r : Refusal) → called (numberAndPlace r .0) (numberAndPlace r .1) ≡ r
+unfolding called
+refusal-called TooLong = refl
+refusal-called NotInGrammar = refl
+refusal-called (DoesNotFit place) = refl
+refusal-called BadSpan = refl
+refusal-called NoText = refl
+refusal-called NoRoom = refl
+refusal-called NoWidth = refl
+refusal-called BadLine = refl
 
-writeCase : Outcome ℕ → WriteAnswer
-writeCase (given n) = W.Written n
-writeCase (refused n place) = cond (eqb n 1) W.TooLong (cond (eqb n 4) W.BadSpan (cond (eqb n 5) W.NoText W.NoRoom))
+-- and the outcome the answer, by how it is made of what is given or of a refusal
+module _ {A B : Type 0} (ofGiven : A → B) (ofRefusal : Refusal → B) where
+  answerOf : Outcome A → B
+  answerOf (given a) = ofGiven a
+  answerOf (refused n place) = ofRefusal (called n place)
 
-write-case : (a : WriteAnswer) → writeCase (writeOutcome a) ≡ a
-unfolding writeCase
-write-case (W.Written n) = refl
-write-case W.TooLong = refl
-write-case W.BadSpan = refl
-write-case W.NoText = refl
-write-case W.NoRoom = refl
+  injective : (outcome : B → Outcome A) → ((b : B) → answerOf (outcome b) ≡ b) → (b c : B) → outcome b ≡ outcome c → b ≡ c
+  injective outcome back b c e = sym (back b) ∙ ap answerOf e ∙ back c
 
-widthCase : Outcome ℕ → WidthAnswer
-widthCase (given n) = M.Width n
-widthCase (refused n place) = cond (eqb n 1) M.TooLong (cond (eqb n 4) M.BadSpan (cond (eqb n 5) M.NoText M.NoWidth))
+read-back : (a : ReadAnswer) → answerOf R.Accepted R.Refused (readOutcome a) ≡ a
+unfolding answerOf
+read-back (R.Accepted v) = refl
+read-back (R.Refused r) = ap R.Refused (refusal-called r)
 
-width-case : (a : WidthAnswer) → widthCase (widthOutcome a) ≡ a
-unfolding widthCase
-width-case (M.Width n) = refl
-width-case M.TooLong = refl
-width-case M.BadSpan = refl
-width-case M.NoText = refl
-width-case M.NoWidth = refl
+write-back : (a : WriteAnswer) → answerOf W.Written W.Refused (writeOutcome a) ≡ a
+unfolding answerOf
+write-back (W.Written n) = refl
+write-back (W.Refused r) = ap W.Refused (refusal-called r)
 
-injective : {A B : Type 0} (f : A → B) (g : B → A) → ((a : A) → g (f a) ≡ a) → (a b : A) → f a ≡ f b → a ≡ b
-injective f g h a b e = sym (h a) ∙ ap g e ∙ h b
+width-back : (a : WidthAnswer) → answerOf M.Width M.Refused (widthOutcome a) ≡ a
+unfolding answerOf
+width-back (M.Width n) = refl
+width-back (M.Refused r) = ap M.Refused (refusal-called r)
+
+pub same-read : (a b : ReadAnswer) → readOutcome a ≡ readOutcome b → a ≡ b
+same-read = injective R.Accepted R.Refused readOutcome read-back
+
+pub same-written : (a b : WriteAnswer) → writeOutcome a ≡ writeOutcome b → a ≡ b
+same-written = injective W.Written W.Refused writeOutcome write-back
+
+pub same-width : (a b : WidthAnswer) → widthOutcome a ≡ widthOutcome b → a ≡ b
+same-width = injective M.Width M.Refused widthOutcome width-back
 
 module _ (letters : Kind → ℕ → Bool) where
   -- ---- reading, where the grammar is unambiguous
@@ -89,14 +108,14 @@ module _ (letters : Kind → ℕ → Bool) where
     reads-unique t a b (doesNotFit h x u p e) (tooLong k) = absurd (omega arith)
     reads-unique t a b (doesNotFit h x u p e) (notInGrammar k g) = absurd (g x u)
     reads-unique t a b (doesNotFit h x u p e) (doesNotFit k y w q f) = let z = one-tree x y u w in cc
-    reads-unique t a b (doesNotFit h x u p e) (accepted k y w f) = let z = one-tree x y u w in cc
+    reads-unique t a b (doesNotFit h x u p e) (accepted k y w f) = let z = one-tree x y u w in let g = faultless-fits (numbersAt 0 y) f in cc
     reads-unique t a b (accepted h x u e) (tooLong k) = absurd (omega arith)
     reads-unique t a b (accepted h x u e) (notInGrammar k g) = absurd (g x u)
-    reads-unique t a b (accepted h x u e) (doesNotFit k y w q f) = let z = one-tree x y u w in cc
+    reads-unique t a b (accepted h x u e) (doesNotFit k y w q f) = let z = one-tree x y u w in let g = faultless-fits (numbersAt 0 x) e in cc
     reads-unique t a b (accepted h x u e) (accepted k y w f) = ap (λ (z : Text). given (recordAt 0 z)) (one-tree x y u w)
 
     pub one-read-answer : (t : List ℕ) (a b : ReadAnswer) → Reads letters t (readOutcome a) → Reads letters t (readOutcome b) → a ≡ b
-    one-read-answer t a b x y = injective readOutcome readCase read-case a b (reads-unique t (readOutcome a) (readOutcome b) x y)
+    one-read-answer t a b x y = same-read a b (reads-unique t (readOutcome a) (readOutcome b) x y)
 
   -- ---- the checks on source and record
   module _ {source : List ℕ} {v : HgvsVariant} where
@@ -141,16 +160,16 @@ module _ (letters : Kind → ℕ → Bool) where
     pub one-write-answer : (a b : WriteAnswer) (o p : List ℕ) → Writes letters T source v output (writeOutcome a) o → Writes letters T source v output (writeOutcome b) p → (a ≡ b) × (o ≡ p)
     one-write-answer a b o p x y =
         let h = writes-unique (writeOutcome a) (writeOutcome b) o p x y in
-        (injective writeOutcome writeCase write-case a b (h .0), h .1)
+        (same-written a b (h .0), h .1)
 
   -- the text that is to be written: of shortest writing, and of reference-free writing
   pub one-shortest : (v : Value) (t u : List ℕ) → ToWrite letters v t → ToWrite letters v u → t ≡ u
-  one-shortest v t u x y = best-unique print (Wf letters) Fits meaning t u v x y
+  one-shortest v t u x y = best-unique print (Wf letters) FaultlessText meaning t u v x y
 
   one-na-no-ref : (h : HeaderV) (k : Kind) (b : NaBodyV k) (t u : List ℕ) → NaNoRef h k b t → NaNoRef h k b u → t ≡ u
   one-na-no-ref h k (both l e) t u x y =
       let p : x .head ≡ y .head = best-unique printHeader WfHeader (λ i. Unit) meaningHeader (x .head) (y .head) h (x .header-is) (y .header-is) in
-      let q : x .location ≡ y .location = best-unique (printLocation k) (WfLocation k) (λ i. misfit (muNumbers (endsNumbers k) 0 i) ≡ none) (mapMu (meaningEnds k)) (x .location) (y .location) l (x .location-is) (y .location-is) in
+      let q : x .location ≡ y .location = best-unique (printLocation k) (WfLocation k) (λ i. Faultless (muNumbers (endsNumbers k) 0 i)) (mapMu (meaningEnds k)) (x .location) (y .location) l (x .location-is) (y .location-is) in
       x .text ∙ rw (p, q) (sym (y .text))
 
   pub one-no-ref : (v : Value) (t u : List ℕ) → NoRefText letters v t → NoRefText letters v u → t ≡ u
@@ -175,4 +194,4 @@ module _ (letters : Kind → ℕ → Bool) where
     measures-unique a b (measured r u e) (measured s w f) = let z : some u ≡ some w = sym e ∙ f in cc
 
     pub one-width-answer : (a b : WidthAnswer) → Measures letters source v (widthOutcome a) → Measures letters source v (widthOutcome b) → a ≡ b
-    one-width-answer a b x y = injective widthOutcome widthCase width-case a b (measures-unique (widthOutcome a) (widthOutcome b) x y)
+    one-width-answer a b x y = same-width a b (measures-unique (widthOutcome a) (widthOutcome b) x y)

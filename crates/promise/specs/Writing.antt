@@ -2,30 +2,25 @@
 use Prim.Native.Nat.{ℕ, _≤_, _<_}
 use mathlib.Core.Path.{_≡_}
 use mathlib.Core.List.{List, _++_}
-use mathlib.Core.Option.{none}
 use mathlib.Core.Bool.{Bool, true, false}
 use lib.ListN.{length, drop}
 use Rattle.record.specs.declared.Kind.{Kind}
 use Rattle.record.specs.declared.HgvsVariant.{HgvsVariant}
-use Rattle.grammar.specs.Texts.{Text, print, Wf}
+use Rattle.grammar.specs.Texts.{print, Wf}
 use Rattle.grammar.specs.Values.{Value}
 use Rattle.grammar.specs.Meaning.{meaning}
-use Rattle.grammar.specs.Numbers.{misfit, numbersAt}
+use Rattle.grammar.specs.Numbers.{FaultlessText}
 use Rattle.grammar.specs.Contents.{content, spansInside}
 use Rattle.grammar.specs.Reads.{ReadsAs, BestText}
 use Rattle.promise.specs.Outcome.{Outcome, Outcome.given, Outcome.refused, limit}
 
--- all numbers fit
-abbrev pub Fits : Text → Type 0
-Fits x = misfit (numbersAt 0 x) ≡ none
-
 module _ (letters : Kind → ℕ → Bool) where
   -- the text t, of any length, reads as the value v
   abbrev pub ReadsAsValue : List ℕ → Value → Type 0
-  ReadsAsValue = ReadsAs print (Wf letters) Fits meaning
+  ReadsAsValue = ReadsAs print (Wf letters) FaultlessText meaning
 
   abbrev pub ShortestText : List ℕ → Value → Type 0
-  ShortestText = BestText print (Wf letters) Fits meaning
+  ShortestText = BestText print (Wf letters) FaultlessText meaning
 
   -- the checks on source and record: they pass, or give a number
   pub record Sound (source : List ℕ) (v : HgvsVariant) : Type 0 where

@@ -26,8 +26,8 @@ use Rattle.grammar.specs.Shapes.{Both, Both.both}
 use Rattle.grammar.specs.ProteinEdits.{Residue, Terminal, Terminal.ter, Terminal.x, Terminal.star, Length, Length.counted, Length.unknown, Length.unsaid, Stop, Stop.stop, ExtEnd, ExtEnd.nothing, ExtEnd.later, ExtEnd.earlier, printTerminal, printLength, printStop, printFsEnd, printExtEnd, WfLength, WfStop, WfFsEnd, WfExtEnd}
 use Rattle.grammar.specs.Values.{ProteinEditV, ProteinEditV.fsV, ProteinEditV.extV}
 use Rattle.grammar.specs.Meaning.{number, lengthOf, meaningFs, meaningExt}
-use Rattle.grammar.specs.Numbers.{Numeral, misfit, lengthNumbers, stopNumbers, fsNumbers, extNumbers}
-use Rattle.grammar.specs.NumberLaws.{one-fits, fits-one}
+use Rattle.grammar.specs.Numbers.{Numeral, Faultless, lengthNumbers, stopNumbers, fsNumbers, extNumbers}
+use Rattle.grammar.specs.NumberLaws.{one-fits, none-faultless, written-faultless}
 use Rattle.lang.specs.Choice.{next-cases}
 use Rattle.lang.specs.Canon.{mapO, map-some, both-some}
 use Rattle.protein_edits.specs.Canon.{canonTerminal, canonLength, canonStop, canonFsEnd, isOptional, canonEarlier, canonExtEnd}
@@ -35,7 +35,7 @@ use Rattle.protein_edits.specs.Canon.{canonTerminal, canonLength, canonS
 -- a part of an edit that is what the value says
 pub record PartRight {Tree Value : Type 0} (Wf : Tree → Type 0) (numbers : ℕ → Tree → List Numeral) (meaning : Tree → Value) (v : Value) (t : Tree) : Type 0 where
   pub wf : Wf t
-  pub fit : (k : ℕ) → misfit (numbers k t) ≡ none
+  pub fit : (k : ℕ) → Faultless (numbers k t)
   pub means : meaning t ≡ v
 
 -- what was found has a text as good as u's
@@ -66,14 +66,14 @@ terminal-found star = refl
 
 -- ---- lengths
 length-right : (v : UncertainLengthChange) (n : Length) → canonLength v ≡ some n → PartRight WfLength lengthNumbers lengthOf v n
-length-right None n e = let i : unsaid ≡ n = cc in rw (← i) (record { wf = tt; fit = λ k. refl; means = refl })
-length-right Unknown n e = let i : unknown ≡ n = cc in rw (← i) (record { wf = tt; fit = λ k. refl; means = refl })
+length-right None n e = let i : unsaid ≡ n = cc in rw (← i) (record { wf = tt; fit = λ k. none-faultless; means = refl })
+length-right Unknown n e = let i : unknown ≡ n = cc in rw (← i) (record { wf = tt; fit = λ k. none-faultless; means = refl })
 length-right (Known z) n e =
     let m = map-some counted (unsignedDigits z) n e in
     let w = unsigned-written z (m .0) (m .1 .0) in
-    rw (← m .1 .1) (record { wf = w .digits; fit = λ k. fits-one k Plain (m .0) (w .fit); means = ap Known (w .value) })
+    rw (← m .1 .1) (record { wf = w .digits; fit = λ k. written-faultless k w; means = ap Known (w .value) })
 
-length-covers : (k : ℕ) (n : Length) → WfLength n → misfit (lengthNumbers k n) ≡ none → PartCovered printLength (canonLength (lengthOf n)) n
+length-covers : (k : ℕ) (n : Length) → WfLength n → Faultless (lengthNumbers k n) → PartCovered printLength (canonLength (lengthOf n)) n
 length-covers k (counted ds) w f =
     let h : val ds ≤ most Plain = one-fits k Plain ds f in
     record { tree = counted (dec (val ds)); is = ap (mapO counted) (unsigned-found (val ds) h); best = dec-best w refl }
@@ -101,14 +101,14 @@ stop-right w v e h =
     let q = l .means in
     rw (← b .1 .1 .1 .1) (record { wf = l .wf; fit = λ k. l .fit (k + length (printTerminal (b .0))); means = cc })
 
-stop-covers : (k : ℕ) (t : Terminal) (n : Length) → WfLength n → misfit (lengthNumbers k n) ≡ none → PartCovered printStop (canonStop (printTerminal t) (lengthOf n)) (stop t n)
+stop-covers : (k : ℕ) (t : Terminal) (n : Length) → WfLength n → Faultless (lengthNumbers k n) → PartCovered printStop (canonStop (printTerminal t) (lengthOf n)) (stop t n)
 stop-covers k t n w f =
     let c = length-covers k n w f in
     record { tree = stop t (c .tree); is = rw (terminal-found t, c .is); best = best-behind (printTerminal t) (c .best) }
 
 -- ---- behind `fs`
 pub fs-right : (r w : Option (List ℕ)) (v : UncertainLengthChange) (e : Option Stop) → canonFsEnd w v ≡ some e → PartRight WfFsEnd fsNumbers (meaningFs r) (fsV r w v) e
-fs-right r none None e h = let i : none ≡ e = cc in rw (← i) (record { wf = tt; fit = λ k. refl; means = refl })
+fs-right r none None e h = let i : none ≡ e = cc in rw (← i) (record { wf = tt; fit = λ k. none-faultless; means = refl })
 fs-right r none Unknown e h = absurd (none-some h)
 fs-right r none (Known z) e h = absurd (none-some h)
 fs-right r (some w) v e h =
@@ -120,7 +120,7 @@ abbrev pub fsCanon : Option Stop → Option (Option Stop)
 fsCanon none = canonFsEnd none None
 fsCanon (some (stop t n)) = canonFsEnd (some (printTerminal t)) (lengthOf n)
 
-pub fs-covers : (k : ℕ) (e : Option Stop) → WfFsEnd e → misfit (fsNumbers k e) ≡ none → PartCovered printFsEnd (fsCanon e) e
+pub fs-covers : (k : ℕ) (e : Option Stop) → WfFsEnd e → Faultless (fsNumbers k e) → PartCovered printFsEnd (fsCanon e) e
 fs-covers k none w f = record { tree = none; is = refl; best = best-refl }
 fs-covers k (some (stop t n)) w f =
     let c = stop-covers (k + length (printTerminal t)) t n w f in
@@ -143,7 +143,7 @@ earlier-right r q (Known z) e h =
     let c = cond-some (isOptional q) (mapO (earlier q) (negatedDigits z)) e h in
     let m = map-some (earlier q) (negatedDigits z) e (c .1) in
     let w = negated-written z (m .0) (m .1 .0) in
-    rw (← m .1 .1) (record { wf = (optional-wf q (c .0), w .digits); fit = λ k. fits-one (k + length (printOptional [] q) + 1) Negated (m .0) (w .fit); means = ap (λ (x : ℤ). extV r q (Known x)) (w .value) })
+    rw (← m .1 .1) (record { wf = (optional-wf q (c .0), w .digits); fit = λ k. written-faultless (k + length (printOptional [] q) + 1) w; means = ap (λ (x : ℤ). extV r q (Known x)) (w .value) })
 
 earlier-covers : (q : Option (List ℕ)) (ds : List ℕ) → WfOptional Residue q → Digits ds → val ds ≤ most Negated → PartCovered printExtEnd (canonEarlier q (Known (number Negated ds))) (earlier q ds)
 earlier-covers q ds wq wd h = record {
@@ -172,7 +172,7 @@ terminal-covers w ds wq wd h = go (canonTerminal w) (val ds) refl refl
 
 -- ---- behind `ext`
 pub ext-right : (r w : Option (List ℕ)) (v : UncertainLengthChange) (e : ExtEnd) → canonExtEnd w v ≡ some e → PartRight WfExtEnd extNumbers (meaningExt r) (extV r w v) e
-ext-right r none None e h = let i : nothing ≡ e = cc in rw (← i) (record { wf = tt; fit = λ k. refl; means = refl })
+ext-right r none None e h = let i : nothing ≡ e = cc in rw (← i) (record { wf = tt; fit = λ k. none-faultless; means = refl })
 ext-right r none Unknown e h = absurd (none-some h)
 ext-right r none (Known z) e h = earlier-right r none (Known z) e h
 ext-right r (some w) v e h = next-cases (mapO later (canonStop w v)) (canonEarlier (some w) v) h with-terminal (earlier-right r (some w) v e)
@@ -188,7 +188,7 @@ extCanon nothing = canonExtEnd none None
 extCanon (later (stop t n)) = canonExtEnd (some (printTerminal t)) (lengthOf n)
 extCanon (earlier q ds) = canonExtEnd q (Known (number Negated ds))
 
-pub ext-covers : (k : ℕ) (e : ExtEnd) → WfExtEnd e → misfit (extNumbers k e) ≡ none → PartCovered printExtEnd (extCanon e) e
+pub ext-covers : (k : ℕ) (e : ExtEnd) → WfExtEnd e → Faultless (extNumbers k e) → PartCovered printExtEnd (extCanon e) e
 ext-covers k nothing w f = record { tree = nothing; is = refl; best = best-refl }
 ext-covers k (later (stop t n)) w f =
     let c = stop-covers (k + length (printTerminal t)) t n w f in

@@ -18,42 +18,42 @@ use Rattle.grammar.specs.Optional.{printOptional}
 use Rattle.grammar.specs.ProteinEdits.{Length, Length.counted, Length.unknown, Length.unsaid, Stop, Stop.stop, ExtEnd, ExtEnd.nothing, ExtEnd.later, ExtEnd.earlier, ProteinEdit, ProteinEdit.subst, ProteinEdit.substUnknown, ProteinEdit.equal, ProteinEdit.del, ProteinEdit.dup, ProteinEdit.ins, ProteinEdit.delIns, ProteinEdit.fs, ProteinEdit.ext, printTerminal, WfProteinEdit}
 use Rattle.grammar.specs.Values.{ProteinEditV, ProteinEditV.fsV, ProteinEditV.extV, ProteinEditV.substV, ProteinEditV.delInsV, ProteinEditV.insPV, ProteinEditV.delV, ProteinEditV.dupPV, ProteinEditV.identV}
 use Rattle.grammar.specs.Meaning.{meaningFs, meaningExt, meaningProteinEdit}
-use Rattle.grammar.specs.Numbers.{misfit, lengthNumbers, stopNumbers, fsNumbers, extNumbers, proteinEditNumbers}
-use Rattle.grammar.specs.NumberLaws.{one-anywhere}
+use Rattle.grammar.specs.Numbers.{Faultless, lengthNumbers, stopNumbers, fsNumbers, extNumbers, proteinEditNumbers}
+use Rattle.grammar.specs.NumberLaws.{none-faultless, one-anywhere}
 use Rattle.lang.specs.Canon.{Canon, Right, Covered, mapO, map-some}
 use Rattle.protein_edits.specs.Instance.{proteinEditLang}
 use Rattle.protein_edits.specs.Canon.{canonFsEnd, isOptional, canonExtEnd, canonProteinEdit}
 use Rattle.protein_edits.specs.CanonEnds.{fs-right, fs-covers, fsCanon, optional-wf, wf-optional, ext-right, ext-covers, extCanon}
 
 abbrev pub FitsProteinEdit : ProteinEdit → Type 0
-FitsProteinEdit t = misfit (proteinEditNumbers 0 t) ≡ none
+FitsProteinEdit t = Faultless (proteinEditNumbers 0 t)
 
 -- ---- whether an edit's number fits does not depend on where the edit stands
-length-anywhere : (j k : ℕ) (n : Length) → misfit (lengthNumbers j n) ≡ none → misfit (lengthNumbers k n) ≡ none
+length-anywhere : (j k : ℕ) (n : Length) → Faultless (lengthNumbers j n) → Faultless (lengthNumbers k n)
 length-anywhere j k (counted ds) e = one-anywhere j k Plain ds e
-length-anywhere j k unknown e = refl
-length-anywhere j k unsaid e = refl
+length-anywhere j k unknown e = none-faultless
+length-anywhere j k unsaid e = none-faultless
 
-stop-anywhere : (j k : ℕ) (e : Stop) → misfit (stopNumbers j e) ≡ none → misfit (stopNumbers k e) ≡ none
+stop-anywhere : (j k : ℕ) (e : Stop) → Faultless (stopNumbers j e) → Faultless (stopNumbers k e)
 stop-anywhere j k (stop t n) h = length-anywhere (j + length (printTerminal t)) (k + length (printTerminal t)) n h
 
-fs-anywhere : (j k : ℕ) (e : Option Stop) → misfit (fsNumbers j e) ≡ none → misfit (fsNumbers k e) ≡ none
-fs-anywhere j k none h = refl
+fs-anywhere : (j k : ℕ) (e : Option Stop) → Faultless (fsNumbers j e) → Faultless (fsNumbers k e)
+fs-anywhere j k none h = none-faultless
 fs-anywhere j k (some e) h = stop-anywhere j k e h
 
-ext-anywhere : (j k : ℕ) (e : ExtEnd) → misfit (extNumbers j e) ≡ none → misfit (extNumbers k e) ≡ none
-ext-anywhere j k nothing h = refl
+ext-anywhere : (j k : ℕ) (e : ExtEnd) → Faultless (extNumbers j e) → Faultless (extNumbers k e)
+ext-anywhere j k nothing h = none-faultless
 ext-anywhere j k (later e) h = stop-anywhere j k e h
 ext-anywhere j k (earlier q ds) h = one-anywhere (j + length (printOptional [] q) + 1) (k + length (printOptional [] q) + 1) Negated ds h
 
-pub fits-anywhere : (j k : ℕ) (t : ProteinEdit) → misfit (proteinEditNumbers j t) ≡ none → misfit (proteinEditNumbers k t) ≡ none
-fits-anywhere j k (subst r) h = refl
-fits-anywhere j k substUnknown h = refl
-fits-anywhere j k equal h = refl
-fits-anywhere j k del h = refl
-fits-anywhere j k dup h = refl
-fits-anywhere j k (ins rs) h = refl
-fits-anywhere j k (delIns rs) h = refl
+pub fits-anywhere : (j k : ℕ) (t : ProteinEdit) → Faultless (proteinEditNumbers j t) → Faultless (proteinEditNumbers k t)
+fits-anywhere j k (subst r) h = none-faultless
+fits-anywhere j k substUnknown h = none-faultless
+fits-anywhere j k equal h = none-faultless
+fits-anywhere j k del h = none-faultless
+fits-anywhere j k dup h = none-faultless
+fits-anywhere j k (ins rs) h = none-faultless
+fits-anywhere j k (delIns rs) h = none-faultless
 fits-anywhere j k (fs r e) h = fs-anywhere (j + length (printOptional [] r) + 2) (k + length (printOptional [] r) + 2) e h
 fits-anywhere j k (ext r e) h = ext-anywhere (j + length (printOptional [] r) + 3) (k + length (printOptional [] r) + 3) e h
 
@@ -66,7 +66,7 @@ plain-right : (v : ProteinEditV) (u t : ProteinEdit) (b : Bool) → cond b (some
 plain-right v u t b e w n m =
     let c = cond-some b (some u) t e in
     let i : u ≡ t = cc (c .1) in
-    rw (← i) (record { wf = w (c .0); fits = rw n; means = m })
+    rw (← i) (record { wf = w (c .0); fits = rw n none-faultless; means = m })
 
 pub right : (v : ProteinEditV) (t : ProteinEdit) → canonProteinEdit v ≡ some t → RightEdit v t
 right (fsV r w n) t e =

@@ -1,7 +1,7 @@
 -- Edits that are written as they stand: with a plainly spelled number that fits, each is the one that canon gives for its value.
 use Prim.Native.Nat.{ℕ, _+_}
 use mathlib.Core.Path.{_≡_, refl, _∙_}
-use mathlib.Core.List.{[], _∷_}
+use mathlib.Core.List.{[]}
 use mathlib.Core.Option.{Option, none, some}
 use mathlib.Core.Bool.{Bool, true, false}
 use lib.ListN.{length}
@@ -11,7 +11,7 @@ use Rattle.number.specs.Plain.{unsigned-plain}
 use Rattle.grammar.specs.Optional.{printOptional}
 use Rattle.grammar.specs.ProteinEdits.{Terminal, Length, Length.counted, Length.unknown, Length.unsaid, Stop, Stop.stop, ExtEnd, ExtEnd.nothing, ExtEnd.later, ExtEnd.earlier, ProteinEdit, ProteinEdit.subst, ProteinEdit.substUnknown, ProteinEdit.equal, ProteinEdit.del, ProteinEdit.dup, ProteinEdit.ins, ProteinEdit.delIns, ProteinEdit.fs, ProteinEdit.ext, printTerminal, WfLength, WfFsEnd, WfExtEnd, WfProteinEdit}
 use Rattle.grammar.specs.Meaning.{lengthOf, meaningProteinEdit}
-use Rattle.grammar.specs.Numbers.{misfit, lengthNumbers, fsNumbers, extNumbers, proteinEditNumbers}
+use Rattle.grammar.specs.Numbers.{Faultless, lengthNumbers, fsNumbers, extNumbers, proteinEditNumbers}
 use Rattle.grammar.specs.NumberLaws.{allPlain, one-fits, one-plain}
 use Rattle.protein_edits.specs.Canon.{canonLength, canonStop, canonProteinEdit}
 use Rattle.protein_edits.specs.CanonEnds.{terminal-found, fsCanon, wf-optional, extCanon}
@@ -35,24 +35,24 @@ settledProteinEdit (delIns rs) = true
 settledProteinEdit (fs r e) = true
 settledProteinEdit (ext r e) = settledExtEnd e
 
-settled-length : (k : ℕ) (n : Length) → WfLength n → misfit (lengthNumbers k n) ≡ none → allPlain (lengthNumbers k n) ≡ true → canonLength (lengthOf n) ≡ some n
+settled-length : (k : ℕ) (n : Length) → WfLength n → Faultless (lengthNumbers k n) → allPlain (lengthNumbers k n) ≡ true → canonLength (lengthOf n) ≡ some n
 settled-length k (counted ds) w f p = rw (unsigned-plain ds w (one-fits k Plain ds f) (one-plain k Plain ds p))
 settled-length k unknown w f p = refl
 settled-length k unsaid w f p = refl
 
-settled-stop : (k : ℕ) (t : Terminal) (n : Length) → WfLength n → misfit (lengthNumbers k n) ≡ none → allPlain (lengthNumbers k n) ≡ true → canonStop (printTerminal t) (lengthOf n) ≡ some (stop t n)
+settled-stop : (k : ℕ) (t : Terminal) (n : Length) → WfLength n → Faultless (lengthNumbers k n) → allPlain (lengthNumbers k n) ≡ true → canonStop (printTerminal t) (lengthOf n) ≡ some (stop t n)
 settled-stop k t n w f p = rw (terminal-found t, settled-length k n w f p)
 
-settled-fs : (k : ℕ) (e : Option Stop) → WfFsEnd e → misfit (fsNumbers k e) ≡ none → allPlain (fsNumbers k e) ≡ true → fsCanon e ≡ some e
+settled-fs : (k : ℕ) (e : Option Stop) → WfFsEnd e → Faultless (fsNumbers k e) → allPlain (fsNumbers k e) ≡ true → fsCanon e ≡ some e
 settled-fs k none w f p = refl
 settled-fs k (some (stop t n)) w f p = rw (settled-stop (k + length (printTerminal t)) t n w f p)
 
-settled-ext : (k : ℕ) (e : ExtEnd) → WfExtEnd e → misfit (extNumbers k e) ≡ none → allPlain (extNumbers k e) ≡ true → settledExtEnd e ≡ true → extCanon e ≡ some e
+settled-ext : (k : ℕ) (e : ExtEnd) → WfExtEnd e → Faultless (extNumbers k e) → allPlain (extNumbers k e) ≡ true → settledExtEnd e ≡ true → extCanon e ≡ some e
 settled-ext k nothing w f p s = refl
 settled-ext k (later (stop t n)) w f p s = rw (settled-stop (k + length (printTerminal t)) t n w f p)
 settled-ext k (earlier r ds) w f p s = absurd (clash s refl)
 
-pub settled-protein-edit : (k : ℕ) (t : ProteinEdit) → WfProteinEdit t → misfit (proteinEditNumbers k t) ≡ none → allPlain (proteinEditNumbers k t) ≡ true → settledProteinEdit t ≡ true → canonProteinEdit (meaningProteinEdit t) ≡ some t
+pub settled-protein-edit : (k : ℕ) (t : ProteinEdit) → WfProteinEdit t → Faultless (proteinEditNumbers k t) → allPlain (proteinEditNumbers k t) ≡ true → settledProteinEdit t ≡ true → canonProteinEdit (meaningProteinEdit t) ≡ some t
 settled-protein-edit k (subst r) w f p s = rw w
 settled-protein-edit k substUnknown w f p s = absurd (clash s refl)
 settled-protein-edit k equal w f p s = refl

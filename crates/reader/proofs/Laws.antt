@@ -7,24 +7,25 @@ use native.Mathlib.Omega.{arith}
 use lib.Dec.{eqb}
 use lib.ListN.{length}
 use borrow.Author.Tests.{ne-eqb}
+use Rattle.record.specs.declared.Refusal.the-variants.{TooLong, NotInGrammar, DoesNotFit}
 use Rattle.record.specs.declared.ReadAnswer.the-variants as R
 use Rattle.record.specs.declared.HgvsVariant.{HgvsVariant}
 use Rattle.grammar.specs.Texts.{Text, allLetters}
 use Rattle.grammar.specs.Records.{recordAt}
-use Rattle.grammar.specs.Numbers.{misfit, numbersAt}
+use Rattle.grammar.specs.Numbers.{numbersAt}
 use Rattle.lang.specs.Answer.{by-answer}
 use Rattle.bodies.specs.WholeText.{parseText}
-use Rattle.bodies.specs.Trees.{parsed-tree, no-tree}
+use Rattle.bodies.specs.Outcomes.{unfit-outcome, faultless-outcome, long-outcome, parsed-outcome, outcome-reads}
 use Rattle.bodies.specs.Settled.{settledText, isSettled, long-unsettled, unparsed-unsettled, parsed-settled}
-use Rattle.promise.specs.Outcome.{limit}
-use Rattle.promise.specs.Reading.{Reads, Reads.tooLong, Reads.notInGrammar, Reads.doesNotFit as unfit, Reads.accepted}
+use Rattle.promise.specs.Outcome.{Outcome.refused, limit}
+use Rattle.promise.specs.Reading.{treeOutcome}
 use Rattle.scan.specs.declared.Faults.{Faults}
 use Rattle.scan.specs.declared.Verdict.{Verdict}
-use Rattle.scan.specs.Faults.{faults, doesNotFit, verdict, verdict-settled, verdict-fits, verdict-unfit}
+use Rattle.scan.specs.Faults.{faults, doesNotFit, verdict, verdict-settled, verdict-faultless, verdict-unfit}
 use Rattle.read_text.specs.declared.TextRead.the-variants.{Nothing, Found}
 use Rattle.na_edits.specs.Alphabet.{alphabets}
 use Rattle.read_text.specs.Answer.{textAnswer}
-use Rattle.reader.specs.Answer.{Tells, unsettled}
+use Rattle.reader.specs.Answer.{Tells, refusedFor}
 
 pub record TextTold (s : List ℕ) (v : HgvsVariant) (f : Faults) : Type 0 where
   pub tree : Text
@@ -38,15 +39,15 @@ text-told s v f e =
     by-answer textAnswer (parseText allLetters alphabets s) e (λ q z. absurd (let y : _≡_ {A = ℕ} 0 1 = cc in omega arith))
     (λ t q z. record { tree = t; parsed = q; means = cc; wrong = cc })
 
-pub too-long : (s : List ℕ) → limit < length s → Tells s (unsettled R.TooLong)
-too-long s h = (tooLong h, long-unsettled allLetters alphabets s h)
+pub too-long : (s : List ℕ) → limit < length s → Tells s (refusedFor TooLong)
+too-long s h = (outcome-reads allLetters alphabets s (long-outcome allLetters alphabets s h), long-unsettled allLetters alphabets s h)
 
 module _ (s : List ℕ) (short : length s ≤ limit) where
-  pub reads-nothing : Nothing ≡ textAnswer (parseText allLetters alphabets s) → Tells s (unsettled R.NotInGrammar)
+  pub reads-nothing : Nothing ≡ textAnswer (parseText allLetters alphabets s) → Tells s (refusedFor NotInGrammar)
   unfolding textAnswer
   reads-nothing e =
       by-answer textAnswer (parseText allLetters alphabets s) e
-      (λ q z. (notInGrammar short (no-tree allLetters alphabets s q), unparsed-unsettled allLetters alphabets s q))
+      (λ q z. (outcome-reads allLetters alphabets s (parsed-outcome allLetters alphabets s short q), unparsed-unsettled allLetters alphabets s q))
       (λ x q z. absurd (let y : _≡_ {A = ℕ} 0 1 = cc in omega arith))
 
   module _ {v : HgvsVariant} {f : Faults} (x : TextTold s v f) (w : Verdict) (e : w ≡ verdict f) where
@@ -56,12 +57,12 @@ module _ (s : List ℕ) (short : length s ≤ limit) where
     settled-is : isSettled allLetters alphabets s ≡ eqb (w .rank) 0
     settled-is = parsed-settled allLetters alphabets s (x .tree) short (x .parsed) ∙ rw is-said (sym (verdict-settled (numbersAt 0 (x .tree)) (settledText (x .tree))))
 
-    pub reads-unfit : w .rank ≡ doesNotFit → Tells s (unsettled (R.DoesNotFit (w .place)))
+    pub reads-unfit : w .rank ≡ doesNotFit → Tells s (refusedFor (DoesNotFit (w .place)))
     reads-unfit h =
-        let m : misfit (numbersAt 0 (x .tree)) ≡ some (w .place) = rw is-said (verdict-unfit (numbersAt 0 (x .tree)) (settledText (x .tree)) (rw is-said at h)) in
-        (unfit short (x .tree) (parsed-tree allLetters alphabets s (x .tree) (x .parsed)) (w .place) m, sym (settled-is ∙ ne-eqb (w .rank) 0 (λ q. omega arith)))
+        let m : treeOutcome (some (x .tree)) ≡ refused 3 (w .place) = rw is-said (unfit-outcome (x .tree) (verdict-unfit (numbersAt 0 (x .tree)) (settledText (x .tree)) (rw is-said at h))) in
+        (outcome-reads allLetters alphabets s (parsed-outcome allLetters alphabets s short (x .parsed) ∙ m), sym (settled-is ∙ ne-eqb (w .rank) 0 (λ q. omega arith)))
 
     pub reads-accepted : (w .rank ≡ doesNotFit → ⊥) → Tells s (record { answer = R.Accepted v; settled = eqb (w .rank) 0 })
     reads-accepted h =
-        let m = verdict-fits (numbersAt 0 (x .tree)) (settledText (x .tree)) (rw is-said at h) in
-        (rw (x .means) (accepted short (x .tree) (parsed-tree allLetters alphabets s (x .tree) (x .parsed)) m), sym settled-is)
+        let m = faultless-outcome (x .tree) (verdict-faultless (numbersAt 0 (x .tree)) (settledText (x .tree)) (rw is-said at h)) in
+        (rw (x .means) (outcome-reads allLetters alphabets s (parsed-outcome allLetters alphabets s short (x .parsed) ∙ m)), sym settled-is)

@@ -3,7 +3,8 @@ use Prim.Native.Nat.{ℕ}
 use mathlib.Core.Path.{_≡_}
 use mathlib.Core.List.{List}
 use mathlib.Core.Bool.{false}
-use Rattle.record.specs.declared.ReadAnswer.{ReadAnswer}
+use Rattle.record.specs.declared.Refusal.{Refusal}
+use Rattle.record.specs.declared.ReadAnswer.the-variants.{Refused}
 use Rattle.grammar.specs.Texts.{allLetters}
 use Rattle.na_edits.specs.Alphabet.{alphabets}
 use Rattle.bodies.specs.Settled.{isSettled}
@@ -15,5 +16,5 @@ abbrev pub Tells : List ℕ → Reading → Type 0
 Tells t r = Reads allLetters t (readOutcome (r .answer)) × (r .settled ≡ isSettled allLetters alphabets t)
 
 -- a refused text is not settled
-abbrev pub unsettled : ReadAnswer → Reading
-unsettled a = record { answer = a; settled = false }
+abbrev pub refusedFor : Refusal → Reading
+refusedFor r = record { answer = Refused r; settled = false }

@@ -1,17 +1,13 @@
--- Reading a text has one answer, and where it is accepted the record's content is what the text means.
+-- Reading a text has one answer.
 use Prim.Native.Nat.{ℕ}
 use mathlib.Core.Path.{_≡_, sym, _∙_}
 use mathlib.Core.List.{List}
 use mathlib.Core.Bool.{Bool}
 use Rattle.record.specs.declared.ReadAnswer.{ReadAnswer}
-use Rattle.record.specs.declared.HgvsVariant.{HgvsVariant}
 use Rattle.grammar.specs.Texts.{Text, print, Wf, allLetters}
-use Rattle.grammar.specs.Contents.{content}
-use Rattle.grammar.specs.ContentLaw.{content-is}
 use Rattle.bodies.specs.WholeText.{unambiguous}
-use Rattle.promise.specs.Outcome.{Outcome.given, readOutcome}
-use Rattle.promise.specs.Reading.{Reads, Reads.accepted}
-use Rattle.promise.specs.Writing.{ReadsAsValue}
+use Rattle.promise.specs.Outcome.{readOutcome}
+use Rattle.promise.specs.Reading.{Reads}
 use Rattle.promise.specs.Unique.{one-read-answer}
 use Rattle.na_edits.specs.Alphabet.{alphabets}
 use Rattle.reader.specs.declared.Reading.{Reading}
@@ -30,7 +26,3 @@ same-reading p q = rw (p, q)
 
 pub one-reading : (t : List ℕ) (a b : Reading) → Tells t a → Tells t b → a ≡ b
 one-reading t a b p q = same-reading (one-answer t (a .answer) (b .answer) (p .0) (q .0)) (p .1 ∙ sym (q .1))
-
--- an accepted text reads as the content of its record
-pub reads-content : (t : List ℕ) (v : HgvsVariant) → Reads allLetters t (given v) → ReadsAsValue allLetters t (content t v)
-reads-content t v (accepted short x tree fits) = record { tree = x; wf = tree .wf; fits = fits; text = tree .text; means = sym (rw (tree .text) at (content-is x)) }

@@ -1,12 +1,12 @@
 // Reading any bytes.
 use read_text::TextRead;
 use record::ReadAnswer;
+use record::Refusal;
 ghost use mathlib.Core.Path.{_≡_};
 ghost use Rattle.grammar.specs.Texts.{allLetters};
-ghost use Rattle.record.specs.declared.ReadAnswer.the-variants as ReadAnswer;
 ghost use Rattle.promise.specs.Outcome.{readOutcome};
 ghost use Rattle.promise.specs.Reading.{Reads};
-ghost use Rattle.reader.specs.Answer.{Tells, unsettled};
+ghost use Rattle.reader.specs.Answer.{Tells, refusedFor};
 
 // The answer for a text, and whether the text is settled: accepted, and shown by its spelling to be the shortest text of its record.
 pub struct Reading {
@@ -14,29 +14,11 @@ pub struct Reading {
     pub settled: bool,
 }
 
-fn too_long() -> Reading
-    ensures { λ r. ⌜ r ≡ unsettled ReadAnswer.TooLong ⌝ }
+fn refused(why: Refusal) -> Reading
+    ensures { λ r. ⌜ r ≡ refusedFor why ⌝ }
 {
     Reading {
-        answer: ReadAnswer::TooLong,
-        settled: false,
-    }
-}
-
-fn not_in_grammar() -> Reading
-    ensures { λ r. ⌜ r ≡ unsettled ReadAnswer.NotInGrammar ⌝ }
-{
-    Reading {
-        answer: ReadAnswer::NotInGrammar,
-        settled: false,
-    }
-}
-
-fn does_not_fit(at: usize) -> Reading
-    ensures { λ r. ⌜ r ≡ unsettled (ReadAnswer.DoesNotFit at) ⌝ }
-{
-    Reading {
-        answer: ReadAnswer::DoesNotFit(at),
+        answer: ReadAnswer::Refused(why),
         settled: false,
     }
 }
@@ -46,16 +28,16 @@ pub fn reading_of(text: &[u8]) -> Reading
     ensures { λ r. ⌜ Tells (now (text .entry)) r ⌝ }
 {
     if 4096 < text.len() {
-        return too_long();
+        return refused(Refusal::TooLong);
     }
     let table = alphabet::classes();
     let TextRead::Found(v, faults) = read_text::hgvs_variant(&table, text) else {
-        return not_in_grammar();
+        return refused(Refusal::NotInGrammar);
     };
     let said = scan::verdict_of(faults);
     let rank = said.rank;
     if rank == scan::DOES_NOT_FIT {
-        return does_not_fit(said.place);
+        return refused(Refusal::DoesNotFit(said.place));
     }
     Reading {
         answer: ReadAnswer::Accepted(v),

@@ -230,29 +230,33 @@ pub enum Wording {
     NoRef,
 }
 
-// What reading, writing and measuring answer: a case for each row of document 01's table of numbers that the operation gives.
-
-pub enum ReadAnswer {
-    Accepted(HgvsVariant),
+// Why an operation gives nothing, in the order of the numbers.
+pub enum Refusal {
     TooLong,
     NotInGrammar,
     // the index of the number's first digit
     DoesNotFit(usize),
+    BadSpan,
+    NoText,
+    NoRoom,
+    NoWidth,
+    BadLine,
+}
+
+// What reading, writing and measuring answer.
+
+pub enum ReadAnswer {
+    Accepted(HgvsVariant),
+    Refused(Refusal),
 }
 
 pub enum WriteAnswer {
     // the length of the text
     Written(usize),
-    TooLong,
-    BadSpan,
-    NoText,
-    NoRoom,
+    Refused(Refusal),
 }
 
 pub enum WidthAnswer {
     Width(u64),
-    TooLong,
-    BadSpan,
-    NoText,
-    NoWidth,
+    Refused(Refusal),
 }

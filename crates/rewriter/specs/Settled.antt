@@ -7,12 +7,12 @@ use mathlib.Core.Bool.{true, _&&_}
 use lib.ListN.{length, drop}
 use Rattle.texts.specs.Tests.{and-true}
 use Rattle.record.specs.declared.HgvsVariant.{HgvsVariant}
-use Rattle.grammar.specs.Texts.{print, allLetters}
+use Rattle.grammar.specs.Texts.{allLetters}
 use Rattle.grammar.specs.Contents.{content}
 use Rattle.grammar.specs.ContentLaw.{content-is}
 use Rattle.grammar.specs.SpanLaw.{spans-in-text}
 use Rattle.grammar.specs.Numbers.{numbersAt}
-use Rattle.grammar.specs.NumberLaws.{allFit, allPlain}
+use Rattle.grammar.specs.NumberLaws.{isFaultless, allPlain}
 use Rattle.na_edits.specs.Alphabet.{alphabets}
 use Rattle.bodies.specs.WholeText.{parseText, complete-text}
 use Rattle.bodies.specs.Settled.{settledText, isSettled, parsed-settled}
@@ -25,7 +25,7 @@ module _ (s : List ℕ) (settled : isSettled allLetters alphabets s ≡ true) wh
   pub settled-text : (v : HgvsVariant) → Reads allLetters s (given v) → ToWrite allLetters (content s v) s
   settled-text v (accepted short x tree fits) =
       let p : parseText allLetters alphabets s ≡ some x = rw (tree .text) at (complete-text allLetters alphabets x (tree .wf)) in
-      let a = and-true (allFit (numbersAt 0 x)) (allPlain (numbersAt 0 x) && settledText x) (sym (parsed-settled allLetters alphabets s x short p) ∙ settled) in
+      let a = and-true (isFaultless (numbersAt 0 x)) (allPlain (numbersAt 0 x) && settledText x) (sym (parsed-settled allLetters alphabets s x short p) ∙ settled) in
       let b = and-true (allPlain (numbersAt 0 x)) (settledText x) (a .1) in
       rw (← tree .text, content-is x) (settled-shortest allLetters alphabets x (tree .wf) fits (b .0) (b .1))
 

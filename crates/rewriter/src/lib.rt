@@ -2,6 +2,7 @@
 use numbered::Answer;
 use record::HgvsVariant;
 use record::ReadAnswer;
+use record::Refusal;
 use record::WriteAnswer;
 ghost use mathlib.Core.Path.{_≡_};
 ghost use Rattle.grammar.specs.Texts.{allLetters};
@@ -22,7 +23,7 @@ fn rewrite(text: &[u8], v: HgvsVariant, settled: bool, output: &mut [u8]) -> Wri
         return writer::write(text, v, output);
     }
     if output.len() < text.len() {
-        return WriteAnswer::NoRoom;
+        return WriteAnswer::Refused(Refusal::NoRoom);
     }
     WriteAnswer::Written(lent::put_bytes(output, 0, text))
 }
@@ -33,19 +34,18 @@ pub fn shortest(text: &[u8], output: &mut [u8]) -> Answer
 {
     let r = reader::reading_of(text);
     let answer = r.answer;
-    let ReadAnswer::Accepted(v) = answer else {
-        return numbered::of_read(answer);
-    };
-    numbered::of_write(rewrite(text, v, r.settled, output))
+    match answer {
+        ReadAnswer::Refused(why) => numbered::of_refusal(why),
+        ReadAnswer::Accepted(v) => numbered::of_write(rewrite(text, v, r.settled, output)),
+    }
 }
 
 // Any text: it is read, and written without the reference at the front of the output.
 pub fn noref(text: &[u8], output: &mut [u8]) -> Answer
     ensures { λ r. ⌜ Rewrites (NoRefText allLetters) (now (text .entry)) (now (output .entry)) r (now (output .exit)) ⌝ }
 {
-    let r = reader::read(text);
-    let ReadAnswer::Accepted(v) = r else {
-        return numbered::of_read(r);
-    };
-    numbered::of_write(writer::write_noref(text, v, output))
+    match reader::read(text) {
+        ReadAnswer::Refused(why) => numbered::of_refusal(why),
+        ReadAnswer::Accepted(v) => numbered::of_write(writer::write_noref(text, v, output)),
+    }
 }

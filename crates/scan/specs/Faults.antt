@@ -11,8 +11,8 @@ use Rattle.texts.specs.Tests.{none-some, and-false}
 use Rattle.number.specs.declared.Sign.{Sign}
 use Rattle.number.specs.Digits.{val}
 use Rattle.number.specs.Reading.{fits, isPlain}
-use Rattle.grammar.specs.Numbers.{Numeral, Numeral.numeral, misfit}
-use Rattle.grammar.specs.NumberLaws.{everyNumber, allFit, allPlain, every-append}
+use Rattle.grammar.specs.Numbers.{Numeral, Numeral.numeral, Faultless, misfit}
+use Rattle.grammar.specs.NumberLaws.{everyNumber, isFaultless, allPlain, every-append, fits-faultless}
 use Rattle.scan.specs.declared.Faults.{Faults}
 use Rattle.scan.specs.declared.Verdict.{Verdict}
 use Rattle.scan.specs.Findings.{Finding, told, leftmostOf, nothingIn, codeOf, rankIn, placeIn, merged, code-append, says-leftmost, says-none-above, says-settled}
@@ -121,12 +121,12 @@ no-other-rank r q (numeral k sign ds ∷ ns) = go (fits sign (val ds)) (no-other
     go true h = h
     go false h = rw (ne-eqb doesNotFit r (λ e. q (sym e))) h
 
-nothing-all-fit : (ns : List Numeral) → nothingIn (findings ns) ≡ allFit ns
+nothing-faultless : (ns : List Numeral) → nothingIn (findings ns) ≡ isFaultless ns
 unfolding everyNumber
-nothing-all-fit [] = refl
-nothing-all-fit (numeral k sign ds ∷ ns) = go (fits sign (val ds)) (nothing-all-fit ns)
+nothing-faultless [] = refl
+nothing-faultless (numeral k sign ds ∷ ns) = go (fits sign (val ds)) (nothing-faultless ns)
   where
-    go : (b : Bool) → nothingIn (findings ns) ≡ allFit ns → nothingIn (cond b [] (unfitAt k ∷ []) ++ findings ns) ≡ b && allFit ns
+    go : (b : Bool) → nothingIn (findings ns) ≡ isFaultless ns → nothingIn (cond b [] (unfitAt k ∷ []) ++ findings ns) ≡ b && isFaultless ns
     go true h = h
     go false h = refl
 
@@ -135,17 +135,17 @@ module _ (ns : List Numeral) (t : Bool) where
   abbrev said : Verdict
   said = verdict (faults ns t)
 
-  pub verdict-settled : eqb (said .rank) 0 ≡ allFit ns && (allPlain ns && t)
+  pub verdict-settled : eqb (said .rank) 0 ≡ isFaultless ns && (allPlain ns && t)
   unfolding faults
-  verdict-settled = rw (← nothing-all-fit ns) (says-settled (findings ns) (allPlain ns && t))
+  verdict-settled = rw (← nothing-faultless ns) (says-settled (findings ns) (allPlain ns && t))
 
   pub verdict-unfit : said .rank ≡ doesNotFit → misfit ns ≡ some (said .place)
   unfolding faults
   verdict-unfit e = sym (leftmost-misfit ns) ∙ (rw e at (says-leftmost (findings ns) (allPlain ns && t) (omega arith)))
 
-  pub verdict-fits : (said .rank ≡ doesNotFit → ⊥) → misfit ns ≡ nothing
+  pub verdict-faultless : (said .rank ≡ doesNotFit → ⊥) → Faultless ns
   unfolding faults
-  verdict-fits q = sym (leftmost-misfit ns) ∙ says-none-above (findings ns) (allPlain ns && t) doesNotFit (omega arith) (go (ltb (said .rank) doesNotFit) refl)
+  verdict-faultless q = fits-faultless ns (sym (leftmost-misfit ns) ∙ says-none-above (findings ns) (allPlain ns && t) doesNotFit (omega arith) (go (ltb (said .rank) doesNotFit) refl))
     where
       go : (b : Bool) → ltb (said .rank) doesNotFit ≡ b → said .rank < doesNotFit
       go true p = ltb-true (said .rank) doesNotFit p

@@ -6,8 +6,9 @@ use mathlib.Core.Bool.{Bool, true, false}
 use lib.Dec.{leb}
 use lib.ListN.{length}
 use borrow.Author.Tests.{leb-true, leb-false}
+use Rattle.record.specs.declared.Refusal.the-variants.{TooLong, BadSpan, NoText}
 use Rattle.record.specs.declared.WriteAnswer.{WriteAnswer}
-use Rattle.record.specs.declared.WriteAnswer.the-variants.{TooLong, BadSpan, NoText}
+use Rattle.record.specs.declared.WriteAnswer.the-variants.{Refused}
 use Rattle.record.specs.declared.HgvsVariant.{HgvsVariant}
 use Rattle.record.specs.declared.Wording.{Wording}
 use Rattle.grammar.specs.Texts.{allLetters}
@@ -25,13 +26,13 @@ module _ (source : List ℕ) (v : HgvsVariant) (output : List ℕ) (w : Wording)
   abbrev pub Answers : WriteAnswer → List ℕ → Type 0
   Answers a o = Writes allLetters (Wanted allLetters w) source v output (writeOutcome a) o
 
-  pub too-long : limit < length source → Answers TooLong output
+  pub too-long : limit < length source → Answers (Refused TooLong) output
   too-long h = Writes.unsound 1 (Unsound.tooLong h)
 
-  pub bad-span : length source ≤ limit → spansInside (length source) v ≡ false → Answers BadSpan output
+  pub bad-span : length source ≤ limit → spansInside (length source) v ≡ false → Answers (Refused BadSpan) output
   bad-span h i = Writes.unsound 4 (Unsound.badSpan h i)
 
-  pub no-text : length source ≤ limit → spansInside (length source) v ≡ true → textPlan source w v ≡ Plans.NoText → Answers NoText output
+  pub no-text : length source ≤ limit → spansInside (length source) v ≡ true → textPlan source w v ≡ Plans.NoText → Answers (Refused NoText) output
   no-text h i e = Writes.unsound 5 (unsound-plan source w v h i e)
 
   -- of a text that is wanted

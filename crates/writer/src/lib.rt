@@ -1,6 +1,7 @@
 // Writing a record into lent room: its shortest text, or the one without the reference.
 use plan_text::TextPlan;
 use record::HgvsVariant;
+use record::Refusal;
 use record::Wording;
 use record::WriteAnswer;
 ghost use Rattle.grammar.specs.Texts.{allLetters};
@@ -13,13 +14,13 @@ fn write_wanted(source: &[u8], v: HgvsVariant, output: &mut [u8], wording: Wordi
     ensures { λ r. ⌜ Writes allLetters (Wanted allLetters wording) (now (source .entry)) v (now (output .entry)) (writeOutcome r) (now (output .exit)) ⌝ }
 {
     if 4096 < source.len() {
-        return WriteAnswer::TooLong;
+        return WriteAnswer::Refused(Refusal::TooLong);
     }
     if !record_inside::spans_inside(source.len(), v) {
-        return WriteAnswer::BadSpan;
+        return WriteAnswer::Refused(Refusal::BadSpan);
     }
     let TextPlan::Text(d) = plan_text::plan_text(source, wording, v) else {
-        return WriteAnswer::NoText;
+        return WriteAnswer::Refused(Refusal::NoText);
     };
     draft::write_draft(source, d, output)
 }
