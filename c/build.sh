@@ -8,7 +8,7 @@ for tool in rt gcc; do
     exit 2
   fi
 done
-rt staticlib c_boundary
+rt staticlib saltwhistle_c
 mkdir -p target/c
-gcc -std=c11 -Wall -Wextra -Werror -O2 -Ic c/example.c target/staticlib/libc_boundary.a -o target/c/example
-echo "built target/staticlib/libc_boundary.a and target/c/example"
+gcc -std=c11 -Wall -Wextra -Werror -O2 -Ic c/example.c target/staticlib/libsaltwhistle_c.a -o target/c/example
+echo "built target/staticlib/libsaltwhistle_c.a and target/c/example"

@@ -7,7 +7,7 @@ use lib.ListN.{length}
 use denote.Ref.{RefT, ptr, now}
 use Rattle.texts.specs.Unique.{no-second-answer}
 use Rattle.record.specs.declared.HgvsVariant.{HgvsVariant}
-use Rattle.grammar.specs.Header.{Accession, printAccession, Header.header, printHeader}
+use Rattle.grammar.specs.Header.{Accession, printAccession, HeaderTree.header, printHeader}
 use Rattle.grammar.specs.Texts.{Text, Text.text, print}
 use Rattle.grammar.specs.Spans.{inside, part}
 use Rattle.grammar.specs.Records.{recordAt}

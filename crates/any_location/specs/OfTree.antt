@@ -4,7 +4,7 @@ use mathlib.Core.Path.{_≡_, refl}
 use mathlib.Core.Bool.{Bool, true, false}
 use lib.IntN.{ℤ, pos}
 use lib.ListN.{length}
-use Rattle.number.specs.declared.Sign.the-variants.{Plain}
+use Rattle.numerals.specs.declared.Sign.the-variants.{Plain}
 use Rattle.record.specs.declared.Span.{Span}
 use Rattle.record.specs.declared.Kind.{Kind}
 use Rattle.record.specs.declared.Kind.the-variants.{Cds, Genome, Mt, Tx, Prot, Rna}
@@ -46,7 +46,7 @@ genomicOf unknown = notKnown
 abbrev pub residualOf : ℕ → Residual → Position
 residualOf at (residual r ds) = plainOf (spanOf at r) (number Plain ds) false
 
-abbrev pub positionOf : (k : Kind) → ℕ → G.Position k → Position
+abbrev pub positionOf : (k : Kind) → ℕ → G.PositionTree k → Position
 positionOf Cds at = basedOf
 positionOf Genome at = genomicOf
 positionOf Mt at = genomicOf
@@ -58,7 +58,7 @@ abbrev pub intervalOf : (k : Kind) → Bool → ℕ → Ends k → Location
 intervalOf k sure at (one p) = record { certain = sure; start = positionOf k at p; end = positionOf k at p }
 intervalOf k sure at (two p q) = record { certain = sure; start = positionOf k at p; end = positionOf k (at + length (printPosition k p) + 1) q }
 
-abbrev pub locationOf : (k : Kind) → ℕ → B.Location k → Location
+abbrev pub locationOf : (k : Kind) → ℕ → B.LocationTree k → Location
 locationOf k at (certain i) = intervalOf k true at i
 locationOf k at (uncertain i) = intervalOf k false (at + 1) i
 

@@ -48,7 +48,7 @@ module _ (k : Kind) (l : Location) (start end : PositionR k) (es : start ≡ pos
   bracketed-for e = rw (e, es, ee)
 
 -- ---- of a tree
-position-for : (k : Kind) (at : ℕ) (p : Tree.Position k) → positionFor k (positionOf k at p) ≡ positionAt k at p
+position-for : (k : Kind) (at : ℕ) (p : Tree.PositionTree k) → positionFor k (positionOf k at p) ≡ positionAt k at p
 position-for Cds at (based m ds o) = refl
 position-for Genome at (known ds) = refl
 position-for Genome at unknown = refl
@@ -64,7 +64,7 @@ interval-for k true at (two p q) = rw (position-for k at p, position-for k (at +
 interval-for k false at (one p) = rw (position-for k at p)
 interval-for k false at (two p q) = rw (position-for k at p, position-for k (at + length (printPosition k p) + 1) q)
 
-pub location-for : (k : Kind) (at : ℕ) (l : B.Location k) → locationFor k (locationOf k at l) ≡ locationAt k at l
+pub location-for : (k : Kind) (at : ℕ) (l : B.LocationTree k) → locationFor k (locationOf k at l) ≡ locationAt k at l
 location-for k at (certain i) = interval-for k true at i
 location-for k at (uncertain i) = interval-for k false (at + 1) i
 

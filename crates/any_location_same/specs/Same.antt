@@ -5,7 +5,7 @@ use mathlib.Core.Bool.{Bool, false, cond}
 use lib.IntN.{ℤ}
 use Rattle.record.specs.declared.Kind.{Kind}
 use Rattle.grammar.specs.Contents.{positionContent}
-use Rattle.location.specs.Equal.{eqℤ, eqPosition}
+use Rattle.lang_locations.specs.Equal.{eqℤ, eqPosition}
 use Rattle.any_location.specs.declared.Position.{Position}
 use Rattle.any_location.specs.ToRecord.{positionFor}
 

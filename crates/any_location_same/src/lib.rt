@@ -7,7 +7,7 @@ ghost use mathlib.Core.Path.{_≡_};
 ghost use mathlib.Core.Bool.{_&&_};
 ghost use Rattle.texts.specs.Words.{same};
 ghost use Rattle.grammar.specs.Spans.{part};
-ghost use Rattle.location.specs.Equal.{eqℤ, eqOffset, eqFrom};
+ghost use Rattle.lang_locations.specs.Equal.{eqℤ, eqOffset, eqFrom};
 ghost use Rattle.any_location_same.specs.Same.{eqGenomic, samePosition};
 
 pub fn same_number(a: i32, b: i32) -> bool

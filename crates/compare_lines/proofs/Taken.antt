@@ -7,7 +7,7 @@ use lib.ListN.{length}
 use Rattle.lines.specs.declared.Line.{Line}
 use Rattle.lines.specs.declared.Taken.{Taken}
 use Rattle.lines.specs.Taking.{taken}
-use Rattle.lines.specs.Laws.{used-le, used-some, stored-length, longer-within}
+use Rattle.lines.specs.HeldLines.{used-le, used-some, stored-length, longer-within}
 
 module _ (buffer : List ℕ) (line : Line) (piece : List ℕ) {t : Taken} (e : t ≡ taken (length buffer) line piece) where
   -- some of the piece is used

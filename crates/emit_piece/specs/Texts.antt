@@ -2,15 +2,15 @@
 use Prim.Native.Nat.{ℕ}
 use mathlib.Core.List.{List, [], _∷_}
 use Rattle.record.specs.declared.Span.{Span}
-use Rattle.number.specs.Digits.{dec}
-use Rattle.emit_piece.specs.declared.Mark.{Mark}
-use Rattle.emit_piece.specs.declared.Mark.the-variants.{Nothing, Byte}
+use Rattle.numerals.specs.Digits.{dec}
+use Rattle.emit_piece.specs.declared.OneByte.{OneByte}
+use Rattle.emit_piece.specs.declared.OneByte.the-variants.{Nothing, Byte}
 use Rattle.emit_piece.specs.declared.Amount.{Amount}
 use Rattle.emit_piece.specs.declared.Amount.the-variants.{Absent, Count}
 
-abbrev pub markText : Mark → List ℕ
-markText Nothing = []
-markText (Byte b) = b ∷ []
+abbrev pub byteText : OneByte → List ℕ
+byteText Nothing = []
+byteText (Byte b) = b ∷ []
 
 abbrev pub amountText : Amount → List ℕ
 amountText Absent = []

@@ -5,10 +5,10 @@ ghost use Prim.Native.Nat.{_+_, _≤_};
 ghost use lib.ListN.{length};
 ghost use Rattle.lent.specs.Put.{put};
 ghost use Rattle.grammar.specs.Spans.{part};
-ghost use Rattle.emit_piece.specs.Texts.{markText, amountText};
+ghost use Rattle.emit_piece.specs.Texts.{byteText, amountText};
 
 // One byte or none: a sign, a bracket, what joins two ends.
-pub enum Mark {
+pub enum OneByte {
     Nothing,
     Byte(u8),
 }
@@ -26,12 +26,12 @@ pub fn part_len(source: &[u8], p: Span) -> usize
     bytes.len()
 }
 
-pub fn mark_len(m: Mark) -> usize
-    ensures { λ r. ⌜ (r ≡ length (markText m)) × (r ≤ 1) ⌝ }
+pub fn byte_len(m: OneByte) -> usize
+    ensures { λ r. ⌜ (r ≡ length (byteText m)) × (r ≤ 1) ⌝ }
 {
     match m {
-        Mark::Nothing => 0,
-        Mark::Byte(_) => 1,
+        OneByte::Nothing => 0,
+        OneByte::Byte(_) => 1,
     }
 }
 
@@ -40,7 +40,7 @@ pub fn amount_len(a: Amount) -> usize
 {
     match a {
         Amount::Absent => 0,
-        Amount::Count(n) => number::decimal_len(n),
+        Amount::Count(n) => numerals::decimal_len(n),
     }
 }
 
@@ -52,13 +52,13 @@ pub fn put_part(source: &[u8], out: &mut [u8], at: usize, p: Span) -> usize
     lent::put_bytes(out, at, parts::part_of(source, p))
 }
 
-pub fn put_mark(out: &mut [u8], at: usize, m: Mark) -> usize
-    requires { ⌜ at + length (markText m) ≤ length (now out) ⌝ }
-    ensures { λ r. ⌜ (r ≡ at + length (markText m)) × (now (out .exit) ≡ put (now (out .entry)) at (markText m)) ⌝ }
+pub fn put_byte(out: &mut [u8], at: usize, m: OneByte) -> usize
+    requires { ⌜ at + length (byteText m) ≤ length (now out) ⌝ }
+    ensures { λ r. ⌜ (r ≡ at + length (byteText m)) × (now (out .exit) ≡ put (now (out .entry)) at (byteText m)) ⌝ }
 {
     match m {
-        Mark::Nothing => at,
-        Mark::Byte(b) => {
+        OneByte::Nothing => at,
+        OneByte::Byte(b) => {
             out[at] = b;
             at + 1
         }
@@ -71,6 +71,6 @@ pub fn put_amount(out: &mut [u8], at: usize, a: Amount) -> usize
 {
     match a {
         Amount::Absent => at,
-        Amount::Count(n) => number::put_decimal(out, at, n),
+        Amount::Count(n) => numerals::put_decimal(out, at, n),
     }
 }

@@ -5,16 +5,16 @@ use mathlib.Core.Option.{none, some}
 use Rattle.texts.specs.Ascii.{ascii}
 use Rattle.record.specs.declared.Kind.{Kind}
 use Rattle.record.specs.declared.Kind.the-variants.{Cds, Genome, Mt, Tx, Rna}
-use Rattle.grammar.specs.Header.{Accession.accession, Header.header}
-use Rattle.grammar.specs.Positions.{Mark.bare, Mark.plus, Mark.minus, Mark.star, Offset.absent, Offset.ahead, Offset.back, Based.based, Genomic.known, Genomic.unknown}
+use Rattle.grammar.specs.Header.{Accession.accession, HeaderTree.header}
+use Rattle.grammar.specs.Positions.{Mark.bare, Mark.plus, Mark.minus, Mark.star, OffsetTree.absent, OffsetTree.ahead, OffsetTree.back, Based.based, Genomic.known, Genomic.unknown}
 use Rattle.grammar.specs.Shapes.{Interval.one, Interval.two, Mu.certain, Mu.uncertain, Both.both}
-use Rattle.grammar.specs.NucleotideEdits.{NaEdit, NaEdit.equal, NaEdit.swap, NaEdit.delIns, NaEdit.delNumIns, NaEdit.delNum, NaEdit.del, NaEdit.ins, NaEdit.dup, NaEdit.invNum, NaEdit.inv}
+use Rattle.grammar.specs.NucleotideEdits.{NaEditTree, NaEditTree.equal, NaEditTree.swap, NaEditTree.delIns, NaEditTree.delNumIns, NaEditTree.delNum, NaEditTree.del, NaEditTree.ins, NaEditTree.dup, NaEditTree.invNum, NaEditTree.inv}
 use Rattle.grammar.specs.Bodies.{Ends, NaBody}
 use Rattle.grammar.specs.Texts.{Text, Text.text}
 use Rattle.examples.specs.Tables.{Row, row, ab}
 
 -- location and edit, both certain
-abbrev sure : (k : Kind) → Ends k → NaEdit → NaBody k
+abbrev sure : (k : Kind) → Ends k → NaEditTree → NaBody k
 sure k i e = both (certain i) (certain e)
 
 abbrev pub nucleotides : List (Row Text)

@@ -4,17 +4,17 @@ use mathlib.Core.List.{List, [], _∷_}
 use mathlib.Core.Option.{none, some}
 use Rattle.texts.specs.Ascii.{ascii}
 use Rattle.record.specs.declared.Kind.the-variants.{Prot}
-use Rattle.grammar.specs.Header.{Accession.accession, Header, Header.header}
+use Rattle.grammar.specs.Header.{Accession.accession, HeaderTree, HeaderTree.header}
 use Rattle.grammar.specs.Positions.{Residual.residual}
 use Rattle.grammar.specs.Shapes.{Interval.one, Interval.two, Mu.certain, Mu.uncertain, Both.both}
-use Rattle.grammar.specs.ProteinEdits.{Terminal.ter, Terminal.x, Terminal.star, Length.counted, Length.unsaid, Stop.stop, ExtEnd.nothing, ExtEnd.later, ExtEnd.earlier, ProteinEdit, ProteinEdit.subst, ProteinEdit.substUnknown, ProteinEdit.equal, ProteinEdit.del, ProteinEdit.dup, ProteinEdit.ins, ProteinEdit.delIns, ProteinEdit.fs, ProteinEdit.ext}
+use Rattle.grammar.specs.ProteinEdits.{Terminal.ter, Terminal.x, Terminal.star, Length.counted, Length.unsaid, Stop.stop, ExtEnd.nothing, ExtEnd.later, ExtEnd.earlier, ProteinEditTree, ProteinEditTree.subst, ProteinEditTree.substUnknown, ProteinEditTree.equal, ProteinEditTree.del, ProteinEditTree.dup, ProteinEditTree.ins, ProteinEditTree.delIns, ProteinEditTree.fs, ProteinEditTree.ext}
 use Rattle.grammar.specs.ProteinEdits as P
 use Rattle.grammar.specs.Bodies.{Ends, ProteinBody, ProteinBody.met1, ProteinBody.bracketedMet1, ProteinBody.noProteinUncertain, ProteinBody.noProtein, ProteinBody.noChangeUncertain, ProteinBody.noChange, ProteinBody.unknown, ProteinBody.change, ProteinBody.bracketed}
 use Rattle.grammar.specs.Texts.{Text, Text.text}
 use Rattle.examples.specs.Tables.{Row, row, ab}
 
 -- AB_12.3(KIT)
-abbrev kit : Header
+abbrev kit : HeaderTree
 kit = header (accession (code "A") (ascii "B") (some (ascii "12")) (some (ascii "3"))) (some (ascii "KIT"))
 
 abbrev met : Ends Prot
@@ -27,7 +27,7 @@ abbrev ter9 : Ends Prot
 ter9 = one (residual (ascii "Ter") (ascii "9"))
 
 -- location and edit, both certain
-abbrev sure : Ends Prot → ProteinEdit → ProteinBody
+abbrev sure : Ends Prot → ProteinEditTree → ProteinBody
 sure i e = change (both (certain i) (certain e))
 
 -- the texts that are never read as location and edit

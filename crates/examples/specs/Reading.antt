@@ -7,8 +7,8 @@ use lib.IntN.{ℤ, pos, negsuc}
 use lib.ListN.{replicate}
 use Rattle.texts.specs.Ascii.{ascii}
 use Rattle.texts.specs.Tables.{Each, each-so, columns}
-use Rattle.number.specs.Digits.{valFrom}
-use Rattle.number.specs.Reading.{orZero}
+use Rattle.numerals.specs.Digits.{valFrom}
+use Rattle.numerals.specs.Reading.{orZero}
 use Rattle.record.specs.declared.Span.{Span}
 use Rattle.record.specs.declared.Part.{Part}
 use Rattle.record.specs.declared.Part.the-variants as Pt
@@ -39,9 +39,9 @@ use Rattle.promise.specs.Outcome.{readOutcome}
 use Rattle.promise.specs.Reading.{Reads}
 use Rattle.promise.specs.Unique.{same-read}
 use Rattle.examples.specs.Tables.{Row, row}
-use Rattle.na_edits.specs.Alphabet.{alphabets}
-use Rattle.bodies.specs.Computing.{computing}
-use Rattle.bodies.specs.Outcomes.{textOutcome, outcome-reads, read-outcome}
+use Rattle.lang_na_edits.specs.Alphabet.{alphabets}
+use Rattle.lang_bodies.specs.Computing.{computing}
+use Rattle.lang_bodies.specs.Outcomes.{textOutcome, outcome-reads, read-outcome}
 
 -- ---- the table
 abbrev cut : ℕ → ℕ → Span

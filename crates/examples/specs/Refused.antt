@@ -6,9 +6,9 @@ use mathlib.Core.Option.{none}
 use Rattle.texts.specs.Ascii.{ascii}
 use Rattle.texts.specs.Tables.{Each, each-so, columns}
 use Rattle.grammar.specs.Texts.{Text, print, Wf, allLetters}
-use Rattle.na_edits.specs.Alphabet.{alphabets}
-use Rattle.bodies.specs.Computing.{parser, computing}
-use Rattle.bodies.specs.Trees.{no-tree}
+use Rattle.lang_na_edits.specs.Alphabet.{alphabets}
+use Rattle.lang_bodies.specs.Computing.{parser, computing}
+use Rattle.lang_bodies.specs.Trees.{no-tree}
 
 abbrev pub refused : List (List ℕ)
 refused =

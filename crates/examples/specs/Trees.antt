@@ -9,9 +9,9 @@ use Rattle.grammar.specs.Bodies.{ProteinBody.met1, ProteinBody.bracketedMet1}
 use Rattle.grammar.specs.Texts.{Text, Text.text, allLetters}
 use Rattle.promise.specs.Reading.{TreeOf}
 use Rattle.examples.specs.Tables.{Row, ab}
-use Rattle.na_edits.specs.Alphabet.{alphabets}
-use Rattle.bodies.specs.Computing.{parser, computing}
-use Rattle.bodies.specs.Trees.{parsed-tree, tree-parsed}
+use Rattle.lang_na_edits.specs.Alphabet.{alphabets}
+use Rattle.lang_bodies.specs.Computing.{parser, computing}
+use Rattle.lang_bodies.specs.Trees.{parsed-tree, tree-parsed}
 use Rattle.examples.specs.Nucleotides.{nucleotides}
 use Rattle.examples.specs.Proteins.{initiations, proteins}
 

@@ -10,7 +10,7 @@ use Rattle.promise.specs.Outcome.{limit}
 use Rattle.frames.specs.declared.FrameState.{FrameState}
 use Rattle.frames.specs.Taking.{Standing, Took, behind, takes, gathered}
 use Rattle.frames.specs.Calls.{Passed, restarted, passes, afterCall, call-passes, ended-first, cut-anywhere}
-use Rattle.frame_promise.specs.Answers.{Answer, Reply, Says, Gives, Gives.silent, Gives.answered, Feeds, replies, Feeding, Feeding.done, Feeding.call}
+use Rattle.frame_promise.specs.FrameAnswers.{Answer, Reply, Says, Gives, Gives.silent, Gives.answered, Feeds, replies, Feeding, Feeding.done, Feeding.call}
 use Rattle.frame_promise.specs.OneAnswer.{same-said, same-standing}
 
 -- ---- calls with one piece and then another, and a call with both

@@ -1,4 +1,4 @@
-pub mod Answers
+pub mod FrameAnswers
 pub mod Cuts
 pub mod OneAnswer
 pub mod Some

@@ -5,14 +5,14 @@ use mathlib.Core.List.{List}
 use mathlib.Core.Option.{Option, some}
 use Rattle.texts.specs.Tests.{clash, none-some}
 use Rattle.grammar.specs.Texts.{allLetters}
-use Rattle.na_edits.specs.Alphabet.{alphabets}
-use Rattle.bodies.specs.WholeText.{unambiguous}
+use Rattle.lang_na_edits.specs.Alphabet.{alphabets}
+use Rattle.lang_bodies.specs.WholeText.{unambiguous}
 use Rattle.promise.specs.Reading.{Reads}
 use Rattle.promise.specs.Unique.{reads-unique}
 use Rattle.lines.specs.Lines.{Held}
 use Rattle.frames.specs.declared.FrameState.{FrameState}
 use Rattle.frames.specs.Taking.{Standing, Took}
-use Rattle.frame_promise.specs.Answers.{Answer, TextAnswer, TextAnswer.badLine, TextAnswer.read, Says, Says.saysBad, Says.saysLong, Says.saysRead, Gives, Gives.silent, Gives.answered, Feeds}
+use Rattle.frame_promise.specs.FrameAnswers.{Answer, TextAnswer, TextAnswer.badLine, TextAnswer.read, Says, Says.saysBad, Says.saysLong, Says.saysRead, Gives, Gives.silent, Gives.answered, Feeds}
 
 same-reading : (t : List ℕ) (a b : Answer) → Reads allLetters t a → Reads allLetters t b → a ≡ b
 same-reading = reads-unique allLetters (unambiguous allLetters alphabets)

@@ -7,8 +7,8 @@ use mathlib.Core.List.{List, [], _∷_, _++_}
 use mathlib.Core.Option.{Option, none, some}
 use lib.ListN.{length, drop}
 use Rattle.grammar.specs.Texts.{allLetters}
-use Rattle.na_edits.specs.Alphabet.{alphabets}
-use Rattle.bodies.specs.Outcomes.{textOutcome, outcome-read}
+use Rattle.lang_na_edits.specs.Alphabet.{alphabets}
+use Rattle.lang_bodies.specs.Outcomes.{textOutcome, outcome-read}
 use Rattle.promise.specs.Outcome.{Outcome.refused, limit}
 use Rattle.promise.specs.Reading.{Reads}
 use Rattle.lines.specs.Lines.{Held, Held.whole, Held.tooLong}
@@ -16,7 +16,7 @@ use Rattle.frames.specs.Frames.{textOf}
 use Rattle.frames.specs.Taking.{fresh, Standing, takes, gathered}
 use Rattle.frames.specs.Calls.{used-within, used-some}
 use Rattle.frames.specs.Room.{takes-room}
-use Rattle.frame_promise.specs.Answers.{Answer, TextAnswer, TextAnswer.badLine, TextAnswer.read, Says, Says.saysBad, Says.saysLong, Says.saysRead, Reply, Gives.silent, Gives.answered, Feeds, replies, Feeding, Feeding.done, Feeding.call}
+use Rattle.frame_promise.specs.FrameAnswers.{Answer, TextAnswer, TextAnswer.badLine, TextAnswer.read, Says, Says.saysBad, Says.saysLong, Says.saysRead, Reply, Gives.silent, Gives.answered, Feeds, replies, Feeding, Feeding.done, Feeding.call}
 
 reads-some : (t : List ℕ) → (a : Answer) × Reads allLetters t a
 reads-some t = (textOutcome allLetters alphabets t, outcome-read allLetters alphabets t)

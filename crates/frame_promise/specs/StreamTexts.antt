@@ -12,14 +12,14 @@ use Rattle.promise.specs.Outcome.{Outcome.refused, limit}
 use Rattle.promise.specs.Reading.{Reads, Reads.tooLong}
 use Rattle.lines.specs.Lines.{lineEnd, Held, Held.whole, Held.tooLong, held}
 use Rattle.lines.specs.Taking.{inLine}
-use Rattle.lines.specs.Laws.{held-fits, fits-held, long-held}
+use Rattle.lines.specs.HeldLines.{held-fits, fits-held, long-held}
 use Rattle.frames.specs.declared.FrameState.{FrameState}
 use Rattle.frames.specs.Frames.{textOf, Lines, Lines.nothing, Stream, Stream.text, Stream.unfinished}
 use Rattle.frames.specs.Taking.{fresh, Standing, Took, takes, gathered}
 use Rattle.frames.specs.Gathering.{gatheredIn, whole-front}
 use Rattle.frames.specs.Streams.{startIn, text-taken, part-taken, stream-passes}
 use Rattle.frames.specs.Spelling.{Framed, sent, framed-text, framed-lines}
-use Rattle.frame_promise.specs.Answers.{Answer, TextAnswer, TextAnswer.badLine, TextAnswer.read, Reply, TextReply, AllReplied, AllReplied.noText, AllReplied.nextText, Says, Says.saysBad, Says.saysLong, Says.saysRead, Gives, Gives.silent, Gives.answered, Feeds, Feeding}
+use Rattle.frame_promise.specs.FrameAnswers.{Answer, TextAnswer, TextAnswer.badLine, TextAnswer.read, Reply, TextReply, AllReplied, AllReplied.noText, AllReplied.nextText, Says, Says.saysBad, Says.saysLong, Says.saysRead, Gives, Gives.silent, Gives.answered, Feeds, Feeding}
 use Rattle.frame_promise.specs.Cuts.{AllSaid, AllSaid.nothingSaid, AllSaid.nextSaid, fed-room, fed-tells}
 
 -- ---- one call

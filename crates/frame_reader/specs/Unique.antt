@@ -6,12 +6,12 @@ use Rattle.texts.specs.Tests.{none-some}
 use Rattle.promise.specs.Unique.{same-read}
 use Rattle.frames.specs.declared.FrameState.{FrameState}
 use Rattle.frames.specs.Taking.{Standing}
-use Rattle.frame_promise.specs.Answers.{Feeds}
+use Rattle.frame_promise.specs.FrameAnswers.{Feeds}
 use Rattle.frame_promise.specs.OneAnswer.{one-call}
 use Rattle.frame_reader.specs.declared.FrameAnswer.{FrameAnswer}
 use Rattle.frame_reader.specs.declared.FrameAnswer.the-variants.{Unfinished, Answered}
 use Rattle.frame_reader.specs.declared.Fed.{Fed}
-use Rattle.frame_reader.specs.Answer.{frameOutcome}
+use Rattle.frame_reader.specs.FrameOutcome.{frameOutcome}
 
 same-answer : (a b : FrameAnswer) → frameOutcome a ≡ frameOutcome b → a ≡ b
 same-answer Unfinished Unfinished e = refl

@@ -3,8 +3,8 @@ use frames::FrameState;
 use record::ReadAnswer;
 use record::Refusal;
 ghost use mathlib.Core.Path.{_≡_};
-ghost use Rattle.frame_promise.specs.Answers.{Feeds};
-ghost use Rattle.frame_reader.specs.Answer.{frameOutcome, refusedFor, AnswersText};
+ghost use Rattle.frame_promise.specs.FrameAnswers.{Feeds};
+ghost use Rattle.frame_reader.specs.FrameOutcome.{frameOutcome, refusedFor, AnswersText};
 
 pub enum FrameAnswer {
     // no empty line has come

@@ -16,11 +16,11 @@ use Rattle.texts.specs.Tests.{none-some, and-true, left-or, right-or}
 use Rattle.texts.specs.Runs.{every, Some}
 use Rattle.lines.specs.Lines.{lineEnd, Held, Held.whole, Held.tooLong, held}
 use Rattle.lines.specs.Taking.{inLine}
-use Rattle.lines.specs.Laws.{held-fits, held-long, fits-held, long-held}
+use Rattle.lines.specs.HeldLines.{held-fits, held-long, fits-held, long-held}
 use Rattle.frames.specs.Frames.{digitValue, twoDigits, andMore, bytesOf, ofSize, frame, joined}
 use Rattle.frames.specs.Digits.{digit-small}
 use Rattle.frames.specs.Bytes.{or-false, added-room, added-full, after-other, after-full, after-first, after-second}
-use Rattle.frames.specs.Room.{Fits, added-fits, bytes-fit}
+use Rattle.frames.specs.Room.{InRoom, added-fits, bytes-fit}
 use Rattle.frames.specs.Taking.{Standing, lineClosed, spoiled, halved, added, withState, digitTaken, afterByte, gathered}
 
 -- ---- a bad text stays bad
@@ -67,7 +67,7 @@ whole-front g t e = go (g .state .bad) (g .state .long || ltb (length (g .buffer
 
 -- ---- a good text t, of which the buffer holds what it can
 pub record Good (room : ℕ) (t : List ℕ) (g : Standing) : Type 0 where
-  pub fits : Fits room g
+  pub fits : InRoom room g
   pub good : g .state .bad ≡ false
   pub holds : cond (g .state .long) tooLong (whole (take (g .state .len) (g .buffer))) ≡ held room t
 
@@ -114,11 +114,11 @@ module _ {room : ℕ} {t : List ℕ} (g : Standing) (h : Good room t g) where
         go : (r : Bool) → ltb (g .state .len) (length (g .buffer)) ≡ r → Good room (t ++ (b ∷ [])) (added g b)
         go true e =
             let k = ltb-true (g .state .len) (length (g .buffer)) e in
-            let f : Fits room (added g b) = added-fits g b (h .fits) in
+            let f : InRoom room (added g b) = added-fits g b (h .fits) in
             rw (added-room g b k) (record { fits = rw (added-room g b k) at f; good = h .good; holds = in-room k (g .state .long) (h .holds) })
         go false e =
             let k = ltb-false (g .state .len) (length (g .buffer)) e in
-            let f : Fits room (added g b) = added-fits g b (h .fits) in
+            let f : InRoom room (added g b) = added-fits g b (h .fits) in
             rw (added-full g b k) (record { fits = rw (added-full g b k) at f; good = h .good; holds = no-room k (g .state .long) (h .holds) })
 
 -- ---- the rest l of a line, of which m bytes have come
@@ -228,7 +228,7 @@ whole-line l h = go (bytesOf l) refl
 
 -- before a line: of a text o, or of one that has a bad line
 pub record Open (room : ℕ) (o : Option (List ℕ)) (g : Standing) : Type 0 where
-  pub fits : Fits room g
+  pub fits : InRoom room g
   pub no-digit : g .state .digits ≡ 0
   pub gathers : gathered g ≡ gatheredIn room o
 
@@ -257,7 +257,7 @@ module _ {room : ℕ} (g : Standing) where
   pub line-opens : (o : Option (List ℕ)) → Open room o g → (l : List ℕ) → Some inLine l → Open room (joined o (frame l)) (ended (foldl afterByte g l))
   line-opens o h l some-l = record { fits = record { room-is = f .room-is; within = f .within }; no-digit = refl; gathers = go o h }
     where
-      f : Fits room (foldl afterByte g l)
+      f : InRoom room (foldl afterByte g l)
       f = bytes-fit g (h .fits) l
 
       go : (o : Option (List ℕ)) → Open room o g → gathered (ended (foldl afterByte g l)) ≡ gatheredIn room (joined o (frame l))

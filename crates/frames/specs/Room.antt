@@ -48,17 +48,17 @@ module _ (g : Standing) where
       go false = digit-keeps (digitValue b)
 
 -- ---- the bytes of a text, and those of a call
-pub record Fits (room : ℕ) (g : Standing) : Type 0 where
+pub record InRoom (room : ℕ) (g : Standing) : Type 0 where
   pub room-is : length (g .buffer) ≡ room
   pub within : g .state .len ≤ room
 
-keeps-fits : {room : ℕ} {g h : Standing} → Keeps g h → Fits room g → Fits room h
+keeps-fits : {room : ℕ} {g h : Standing} → Keeps g h → InRoom room g → InRoom room h
 keeps-fits k f = record { room-is = k .same-room ∙ f .room-is; within = rw (f .room-is) at (k .still-within) (f .within) }
 
-pub added-fits : {room : ℕ} (g : Standing) (b : ℕ) → Fits room g → Fits room (added g b)
+pub added-fits : {room : ℕ} (g : Standing) (b : ℕ) → InRoom room g → InRoom room (added g b)
 added-fits g b = keeps-fits (added-keeps g b)
 
-pub bytes-fit : {room : ℕ} (g : Standing) → Fits room g → (s : List ℕ) → Fits room (foldl afterByte g s)
+pub bytes-fit : {room : ℕ} (g : Standing) → InRoom room g → (s : List ℕ) → InRoom room (foldl afterByte g s)
 bytes-fit g f [] = f
 bytes-fit g f (b ∷ s) = bytes-fit (afterByte g b) (keeps-fits (byte-keeps g b) f) s
 

@@ -13,7 +13,7 @@ use Rattle.texts.specs.Tests.{and-true}
 use Rattle.texts.specs.Runs.{every}
 use Rattle.lines.specs.Lines.{lineEnd}
 use Rattle.lines.specs.Taking.{inLine}
-use Rattle.lines.specs.Laws.{held-fits}
+use Rattle.lines.specs.HeldLines.{held-fits}
 use Rattle.frames.specs.Frames.{digitValue, frame, joined, textOf, Lines, Lines.nothing, Lines.line, Stream, Stream.unfinished, Stream.text}
 use Rattle.frames.specs.Taking.{fresh, Standing, closes, spoiled, halved, added, withState, digitTaken, afterByte, Took, behind, takes, gathered}
 use Rattle.frames.specs.Calls.{Passed, thenMore, passes, afterCall, call-passes, same-used}

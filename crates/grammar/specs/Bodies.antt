@@ -6,14 +6,14 @@ use mathlib.Core.Bool.{Bool}
 use Rattle.texts.specs.Ascii.{ascii}
 use Rattle.record.specs.declared.Kind.{Kind}
 use Rattle.record.specs.declared.Kind.the-variants.{Cds, Genome, Mt, Tx, Prot, Rna}
-use Rattle.grammar.specs.Positions.{Position, printPosition, WfPosition}
+use Rattle.grammar.specs.Positions.{PositionTree, printPosition, WfPosition}
 use Rattle.grammar.specs.Shapes.{Interval, Mu, Both, printInterval, WfInterval, printMu, WfMu, printBoth, WfBoth}
-use Rattle.grammar.specs.NucleotideEdits.{NaEdit, printNaEdit, WfNaEdit}
-use Rattle.grammar.specs.ProteinEdits.{ProteinEdit, printProteinEdit, WfProteinEdit}
+use Rattle.grammar.specs.NucleotideEdits.{NaEditTree, printNaEdit, WfNaEdit}
+use Rattle.grammar.specs.ProteinEdits.{ProteinEditTree, printProteinEdit, WfProteinEdit}
 
 -- location: an interval, certain or uncertain
 abbrev pub Ends : Kind → Type 0
-Ends k = Interval (Position k)
+Ends k = Interval (PositionTree k)
 
 abbrev pub printEnds : (k : Kind) → Ends k → List ℕ
 printEnds k = printInterval (printPosition k)
@@ -21,18 +21,18 @@ printEnds k = printInterval (printPosition k)
 abbrev pub WfEnds : (k : Kind) → Ends k → Type 0
 WfEnds k = WfInterval (WfPosition k)
 
-abbrev pub Location : Kind → Type 0
-Location k = Mu (Ends k)
+abbrev pub LocationTree : Kind → Type 0
+LocationTree k = Mu (Ends k)
 
-abbrev pub printLocation : (k : Kind) → Location k → List ℕ
+abbrev pub printLocation : (k : Kind) → LocationTree k → List ℕ
 printLocation k = printMu (printEnds k)
 
-abbrev pub WfLocation : (k : Kind) → Location k → Type 0
+abbrev pub WfLocation : (k : Kind) → LocationTree k → Type 0
 WfLocation k = WfMu (WfEnds k)
 
 -- c, g, m, n, r: location then edit
 abbrev pub NaBody : Kind → Type 0
-NaBody k = Both (Location k) (Mu NaEdit)
+NaBody k = Both (LocationTree k) (Mu NaEditTree)
 
 abbrev pub printNaBody : (k : Kind) → NaBody k → List ℕ
 printNaBody k = printBoth (printLocation k) (printMu printNaEdit)
@@ -44,8 +44,8 @@ WfNaBody na k = WfBoth (WfLocation k) (WfMu (WfNaEdit na))
 pub data ProteinBody : Type 0 where
   met1 bracketedMet1 : ProteinBody
   noProteinUncertain noProtein noChangeUncertain noChange unknown : ProteinBody
-  change : Both (Location Prot) (Mu ProteinEdit) → ProteinBody
-  bracketed : Both (Ends Prot) ProteinEdit → ProteinBody
+  change : Both (LocationTree Prot) (Mu ProteinEditTree) → ProteinBody
+  bracketed : Both (Ends Prot) ProteinEditTree → ProteinBody
 
 abbrev pub printProteinBody : ProteinBody → List ℕ
 printProteinBody met1 = ascii "Met1?"
@@ -74,15 +74,15 @@ WfProteinBody unknown = Unit
 WfProteinBody (change b) = WfBoth (WfLocation Prot) (WfMu WfProteinEdit) b × NotMet1 (printProteinBody (change b))
 WfProteinBody (bracketed b) = WfBoth (WfEnds Prot) WfProteinEdit b × NotMet1 (printProteinBody (bracketed b))
 
-abbrev pub Body : Kind → Type 0
-Body Cds = NaBody Cds
-Body Genome = NaBody Genome
-Body Mt = NaBody Mt
-Body Tx = NaBody Tx
-Body Prot = ProteinBody
-Body Rna = NaBody Rna
+abbrev pub BodyTree : Kind → Type 0
+BodyTree Cds = NaBody Cds
+BodyTree Genome = NaBody Genome
+BodyTree Mt = NaBody Mt
+BodyTree Tx = NaBody Tx
+BodyTree Prot = ProteinBody
+BodyTree Rna = NaBody Rna
 
-abbrev pub printBody : (k : Kind) → Body k → List ℕ
+abbrev pub printBody : (k : Kind) → BodyTree k → List ℕ
 printBody Cds = printNaBody Cds
 printBody Genome = printNaBody Genome
 printBody Mt = printNaBody Mt
@@ -92,7 +92,7 @@ printBody Rna = printNaBody Rna
 
 -- over the nucleotide letters of each kind
 module _ (letters : Kind → ℕ → Bool) where
-  abbrev pub WfBody : (k : Kind) → Body k → Type 0
+  abbrev pub WfBody : (k : Kind) → BodyTree k → Type 0
   WfBody Cds = WfNaBody (letters Cds) Cds
   WfBody Genome = WfNaBody (letters Genome) Genome
   WfBody Mt = WfNaBody (letters Mt) Mt

@@ -12,17 +12,17 @@ use Rattle.alphabet.specs.Letters.{among, digit, letter, alphanumeric, residue}
 use Rattle.alphabet.specs.Apart.{among-every, none-among, nucleotide-letter, isAscii, alphanumeric-ascii}
 use Rattle.residue.specs.Residues.{isResidues}
 use Rattle.residue.specs.Rows.{rows}
-use Rattle.residue.specs.Laws.{residue-passes, residues-pass}
+use Rattle.residue.specs.ResiduesRead.{residue-passes, residues-pass}
 use Rattle.record.specs.declared.Kind.{Kind}
 use Rattle.record.specs.declared.Kind.the-variants.{Cds, Genome, Mt, Tx, Prot, Rna}
 use Rattle.grammar.specs.Optional.{printOptional, WfOptional}
-use Rattle.grammar.specs.Header.{Accession, Accession.accession, printAccession, WfAccession, printGene, printKind, Header, Header.header, printHeader, WfHeader}
-use Rattle.grammar.specs.Positions.{Mark, Mark.bare, Mark.plus, Mark.minus, Mark.star, Offset, Offset.absent, Offset.ahead, Offset.back, Based, Based.based, Genomic, Genomic.known, Genomic.unknown, Residual.residual, Position, printMark, printOffset, printBased, printGenomic, printPosition, Digits, WfOffset, WfBased, WfGenomic, WfPosition}
+use Rattle.grammar.specs.Header.{Accession, Accession.accession, printAccession, WfAccession, printGene, printKind, HeaderTree, HeaderTree.header, printHeader, WfHeader}
+use Rattle.grammar.specs.Positions.{Mark, Mark.bare, Mark.plus, Mark.minus, Mark.star, OffsetTree, OffsetTree.absent, OffsetTree.ahead, OffsetTree.back, Based, Based.based, Genomic, Genomic.known, Genomic.unknown, Residual.residual, PositionTree, printMark, printOffset, printBased, printGenomic, printPosition, Digits, WfOffset, WfBased, WfGenomic, WfPosition}
 use Rattle.grammar.specs.Shapes.{Interval.one, Interval.two, Mu, Mu.certain, Mu.uncertain, Both.both, printMu, WfMu}
-use Rattle.grammar.specs.NucleotideEdits.{NaEdit, NaEdit.equal, NaEdit.swap, NaEdit.delIns, NaEdit.delNumIns, NaEdit.delNum, NaEdit.del, NaEdit.ins, NaEdit.dup, NaEdit.invNum, NaEdit.inv, printNaEdit, WfNaEdit}
+use Rattle.grammar.specs.NucleotideEdits.{NaEditTree, NaEditTree.equal, NaEditTree.swap, NaEditTree.delIns, NaEditTree.delNumIns, NaEditTree.delNum, NaEditTree.del, NaEditTree.ins, NaEditTree.dup, NaEditTree.invNum, NaEditTree.inv, printNaEdit, WfNaEdit}
 use Rattle.grammar.specs.ProteinEdits as P
-use Rattle.grammar.specs.ProteinEdits.{Residue, Terminal, Terminal.ter, Terminal.x, ProteinEdit, Length, Length.counted, Length.unsaid, Stop, Stop.stop, ExtEnd, ExtEnd.nothing, ExtEnd.later, ExtEnd.earlier, printTerminal, printLength, printStop, printFsEnd, printExtEnd, printProteinEdit, WfLength, WfStop, WfFsEnd, WfExtEnd, WfProteinEdit}
-use Rattle.grammar.specs.Bodies.{Ends, printEnds, WfEnds, printLocation, NaBody, printNaBody, WfNaBody, ProteinBody, ProteinBody.met1, ProteinBody.bracketedMet1, ProteinBody.noProteinUncertain, ProteinBody.noProtein, ProteinBody.noChangeUncertain, ProteinBody.noChange, ProteinBody.unknown, ProteinBody.change, ProteinBody.bracketed, printProteinBody, WfProteinBody, Body, printBody, WfBody}
+use Rattle.grammar.specs.ProteinEdits.{Residue, Terminal, Terminal.ter, Terminal.x, ProteinEditTree, Length, Length.counted, Length.unsaid, Stop, Stop.stop, ExtEnd, ExtEnd.nothing, ExtEnd.later, ExtEnd.earlier, printTerminal, printLength, printStop, printFsEnd, printExtEnd, printProteinEdit, WfLength, WfStop, WfFsEnd, WfExtEnd, WfProteinEdit}
+use Rattle.grammar.specs.Bodies.{Ends, printEnds, WfEnds, printLocation, NaBody, printNaBody, WfNaBody, ProteinBody, ProteinBody.met1, ProteinBody.bracketedMet1, ProteinBody.noProteinUncertain, ProteinBody.noProtein, ProteinBody.noChangeUncertain, ProteinBody.noChange, ProteinBody.unknown, ProteinBody.change, ProteinBody.bracketed, printProteinBody, WfProteinBody, BodyTree, printBody, WfBody}
 use Rattle.grammar.specs.Texts.{Text, Text.text, print, Wf, allLetters}
 
 -- a letter, a digit or one of the signs
@@ -85,7 +85,7 @@ accession-in (accession b name suffix version) w =
     (optional-in (ascii "_") (Some alphanumeric) refl name-in suffix (w .2))
     (optional-in (ascii ".") Digits refl digits-in version (w .3))))
 
-header-in : (h : Header) → WfHeader h → InText (printHeader h)
+header-in : (h : HeaderTree) → WfHeader h → InText (printHeader h)
 header-in (header a gene) w = both-in (printAccession a) (printGene gene) (accession-in a (w .0)) (gene-in gene (w .1))
 
 kind-in : (k : Kind) → InText (printKind k)
@@ -105,7 +105,7 @@ mark-in plus = refl
 mark-in minus = refl
 mark-in star = refl
 
-offset-in : (o : Offset) → WfOffset o → InText (printOffset o)
+offset-in : (o : OffsetTree) → WfOffset o → InText (printOffset o)
 unfolding every isTextByte alphanumeric letter digit
 offset-in absent w = refl
 offset-in (ahead ds) w = both-in (ascii "+") ds refl (digits-in ds w)
@@ -119,7 +119,7 @@ unfolding every isTextByte alphanumeric letter digit
 genomic-in (known ds) w = digits-in ds w
 genomic-in unknown w = refl
 
-position-in : (k : Kind) (p : Position k) → WfPosition k p → InText (printPosition k p)
+position-in : (k : Kind) (p : PositionTree k) → WfPosition k p → InText (printPosition k p)
 position-in Cds p w = based-in p w
 position-in Genome p w = genomic-in p w
 position-in Mt p w = genomic-in p w
@@ -172,17 +172,17 @@ ext-in nothing w = refl
 ext-in (later e) w = stop-in e w
 ext-in (earlier r ds) w = both-in (printOptional [] r) _ (optional-residue-in r (w .0)) (both-in (ascii "-") ds refl (digits-in ds (w .1)))
 
-protein-edit-in : (e : ProteinEdit) → WfProteinEdit e → InText (printProteinEdit e)
+protein-edit-in : (e : ProteinEditTree) → WfProteinEdit e → InText (printProteinEdit e)
 unfolding every isTextByte alphanumeric letter digit
-protein-edit-in (P.ProteinEdit.subst r) w = residue-in r w
-protein-edit-in P.ProteinEdit.substUnknown w = refl
-protein-edit-in P.ProteinEdit.equal w = refl
-protein-edit-in P.ProteinEdit.del w = refl
-protein-edit-in P.ProteinEdit.dup w = refl
-protein-edit-in (P.ProteinEdit.ins rs) w = both-in (ascii "ins") rs refl (residues-in rs w)
-protein-edit-in (P.ProteinEdit.delIns rs) w = both-in (ascii "delins") rs refl (residues-in rs w)
-protein-edit-in (P.ProteinEdit.fs r e) w = both-in (printOptional [] r) _ (optional-residue-in r (w .0)) (both-in (ascii "fs") (printFsEnd e) refl (fs-in e (w .1)))
-protein-edit-in (P.ProteinEdit.ext r e) w = both-in (printOptional [] r) _ (optional-residue-in r (w .0)) (both-in (ascii "ext") (printExtEnd e) refl (ext-in e (w .1)))
+protein-edit-in (P.ProteinEditTree.subst r) w = residue-in r w
+protein-edit-in P.ProteinEditTree.substUnknown w = refl
+protein-edit-in P.ProteinEditTree.equal w = refl
+protein-edit-in P.ProteinEditTree.del w = refl
+protein-edit-in P.ProteinEditTree.dup w = refl
+protein-edit-in (P.ProteinEditTree.ins rs) w = both-in (ascii "ins") rs refl (residues-in rs w)
+protein-edit-in (P.ProteinEditTree.delIns rs) w = both-in (ascii "delins") rs refl (residues-in rs w)
+protein-edit-in (P.ProteinEditTree.fs r e) w = both-in (printOptional [] r) _ (optional-residue-in r (w .0)) (both-in (ascii "fs") (printFsEnd e) refl (fs-in e (w .1)))
+protein-edit-in (P.ProteinEditTree.ext r e) w = both-in (printOptional [] r) _ (optional-residue-in r (w .0)) (both-in (ascii "ext") (printExtEnd e) refl (ext-in e (w .1)))
 
 protein-body-in : (b : ProteinBody) → WfProteinBody b → InText (printProteinBody b)
 unfolding every isTextByte alphanumeric letter digit
@@ -208,7 +208,7 @@ module _ (na : ℕ → Bool) (letters-in : (b : ℕ) → na b ≡ true → isTex
   replaced-in old new h w =
       both-in (ascii "del") (old ++ (ascii "ins" ++ new)) refl (both-in old (ascii "ins" ++ new) h (both-in (ascii "ins") new refl (seq-in new (w .all))))
 
-  na-edit-in : (e : NaEdit) → WfNaEdit na e → InText (printNaEdit e)
+  na-edit-in : (e : NaEditTree) → WfNaEdit na e → InText (printNaEdit e)
   unfolding every isTextByte alphanumeric letter digit
   na-edit-in (equal seq) w = both-in seq (ascii "=") (seq-in seq w) refl
   na-edit-in (swap a b) w =
@@ -231,7 +231,7 @@ module _ (letters : Kind → ℕ → Bool) (are-letters : (k : Kind) (b : ℕ) �
   na-in : (k : Kind) (b : NaBody k) → WfNaBody (letters k) k b → InText (printNaBody k b)
   na-in k = na-body-in (letters k) (λ b h. letter-in b (are-letters k b h)) k
 
-  pub body-bytes : (k : Kind) (b : Body k) → WfBody letters k b → every isTextByte (printBody k b) ≡ true
+  pub body-bytes : (k : Kind) (b : BodyTree k) → WfBody letters k b → every isTextByte (printBody k b) ≡ true
   body-bytes Cds = na-in Cds
   body-bytes Genome = na-in Genome
   body-bytes Mt = na-in Mt
@@ -247,10 +247,10 @@ module _ (letters : Kind → ℕ → Bool) (are-letters : (k : Kind) (b : ℕ) �
     other : (b : ℕ) → isTextByte b ≡ true → not (among b others) ≡ true
     other b h = rw (none-among isTextByte b others outside h)
 
-    pub body-without : (k : Kind) (b : Body k) → WfBody letters k b → every (λ x. not (among x others)) (printBody k b) ≡ true
+    pub body-without : (k : Kind) (b : BodyTree k) → WfBody letters k b → every (λ x. not (among x others)) (printBody k b) ≡ true
     body-without k b w = every-wider isTextByte (λ x. not (among x others)) other (printBody k b) (body-bytes k b w)
 
-  pub body-unjoined : (k : Kind) (b : Body k) → WfBody letters k b → every (λ x. not (among x (ascii ";[]"))) (printBody k b) ≡ true
+  pub body-unjoined : (k : Kind) (b : BodyTree k) → WfBody letters k b → every (λ x. not (among x (ascii ";[]"))) (printBody k b) ≡ true
   unfolding every isTextByte alphanumeric letter digit
   body-unjoined = body-without (ascii ";[]") refl
 

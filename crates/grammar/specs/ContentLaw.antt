@@ -5,17 +5,17 @@ use mathlib.Core.List.{List, [], _∷_, _++_}
 use mathlib.Core.Option.{Option, none, some}
 use lib.ListN.{length}
 use Rattle.texts.specs.Ascii.{ascii}
-use Rattle.number.specs.declared.Sign.the-variants.{Plain}
+use Rattle.numerals.specs.declared.Sign.the-variants.{Plain}
 use Rattle.record.specs.declared.Kind.{Kind}
 use Rattle.record.specs.declared.Kind.the-variants.{Cds, Genome, Mt, Tx, Prot, Rna}
-use Rattle.grammar.specs.Header.{Header, Header.header, printAccession, printGene, printHeader, printKind}
-use Rattle.grammar.specs.Positions.{Residual, Residual.residual, Position, printPosition}
+use Rattle.grammar.specs.Header.{HeaderTree, HeaderTree.header, printAccession, printGene, printHeader, printKind}
+use Rattle.grammar.specs.Positions.{Residual, Residual.residual, PositionTree, printPosition}
 use Rattle.grammar.specs.Shapes.{Interval.one, Interval.two, Mu, Mu.certain, Mu.uncertain, Both, Both.both, printMu}
-use Rattle.grammar.specs.NucleotideEdits.{NaEdit, NaEdit.equal, NaEdit.swap, NaEdit.delIns, NaEdit.delNumIns, NaEdit.delNum, NaEdit.del, NaEdit.ins, NaEdit.dup, NaEdit.invNum, NaEdit.inv, printNaEdit}
+use Rattle.grammar.specs.NucleotideEdits.{NaEditTree, NaEditTree.equal, NaEditTree.swap, NaEditTree.delIns, NaEditTree.delNumIns, NaEditTree.delNum, NaEditTree.del, NaEditTree.ins, NaEditTree.dup, NaEditTree.invNum, NaEditTree.inv, printNaEdit}
 use Rattle.grammar.specs.Optional.{printOptional}
 use Rattle.grammar.specs.ProteinEdits as P
-use Rattle.grammar.specs.ProteinEdits.{ProteinEdit, Stop, Stop.stop, ExtEnd, ExtEnd.nothing, ExtEnd.later, ExtEnd.earlier, printTerminal, printFsEnd, printExtEnd, printProteinEdit}
-use Rattle.grammar.specs.Bodies.{Ends, Location, printEnds, printLocation, ProteinBody, ProteinBody.met1, ProteinBody.bracketedMet1, ProteinBody.noProteinUncertain, ProteinBody.noProtein, ProteinBody.noChangeUncertain, ProteinBody.noChange, ProteinBody.unknown, ProteinBody.change, ProteinBody.bracketed, Body, printBody, printProteinBody}
+use Rattle.grammar.specs.ProteinEdits.{ProteinEditTree, Stop, Stop.stop, ExtEnd, ExtEnd.nothing, ExtEnd.later, ExtEnd.earlier, printTerminal, printFsEnd, printExtEnd, printProteinEdit}
+use Rattle.grammar.specs.Bodies.{Ends, LocationTree, printEnds, printLocation, ProteinBody, ProteinBody.met1, ProteinBody.bracketedMet1, ProteinBody.noProteinUncertain, ProteinBody.noProtein, ProteinBody.noChangeUncertain, ProteinBody.noChange, ProteinBody.unknown, ProteinBody.change, ProteinBody.bracketed, BodyTree, printBody, printProteinBody}
 use Rattle.grammar.specs.Texts.{Text, Text.text, print}
 use Rattle.grammar.specs.Values.{ProtPosV.protPosV, NaEditV.refAlt, NaEditV.numAlt, NaEditV.delRef, NaEditV.insV, NaEditV.dupV, NaEditV.invRef, ProteinEditV.substV, ProteinEditV.delInsV, ProteinEditV.insPV, Value.value}
 use Rattle.grammar.specs.Meaning.{number, meaningPosition, meaningEnds, mapMu, meaningNaEdit, meaningFs, meaningExt, meaningProteinEdit, meaningProteinBody, meaningBody, meaningHeader, meaning}
@@ -29,7 +29,7 @@ module _ (s : List ℕ) where
   prot-content : (k : ℕ) (p : Residual) → Stands s k (printPosition Prot p) → positionContent s Prot (protAt k p) ≡ meaningPosition Prot p
   prot-content k (residual r ds) h = ap (λ (x : List ℕ). protPosV x (number Plain ds)) (stands-part (left r _ h))
 
-  position-content : (kind : Kind) (k : ℕ) (p : Position kind) → Stands s k (printPosition kind p) → positionContent s kind (positionAt kind k p) ≡ meaningPosition kind p
+  position-content : (kind : Kind) (k : ℕ) (p : PositionTree kind) → Stands s k (printPosition kind p) → positionContent s kind (positionAt kind k p) ≡ meaningPosition kind p
   position-content Cds k p h = refl
   position-content Genome k p h = refl
   position-content Mt k p h = refl
@@ -70,12 +70,12 @@ module _ (s : List ℕ) where
   location-uncertain Prot i = refl
   location-uncertain Rna i = refl
 
-  location-content : (kind : Kind) (k : ℕ) (l : Location kind) → Stands s k (printLocation kind l) → locationContent s kind (locationAt kind k l) ≡ mapMu (meaningEnds kind) l
+  location-content : (kind : Kind) (k : ℕ) (l : LocationTree kind) → Stands s k (printLocation kind l) → locationContent s kind (locationAt kind k l) ≡ mapMu (meaningEnds kind) l
   location-content kind k (certain i) h = location-certain kind (intervalAt kind k i) ∙ ap certain (ends-content kind k i h)
   location-content kind k (uncertain i) h = location-uncertain kind (intervalAt kind (k + 1) i) ∙ ap uncertain (ends-content kind (k + 1) i (inner h))
 
   -- ---- nucleotide edits
-  na-edit-content : (k : ℕ) (e : NaEdit) → Stands s k (printNaEdit e) → naEditContent s (naEditAt k e) ≡ meaningNaEdit e
+  na-edit-content : (k : ℕ) (e : NaEditTree) → Stands s k (printNaEdit e) → naEditContent s (naEditAt k e) ≡ meaningNaEdit e
   na-edit-content k (equal seq) h = ap (λ (x : List ℕ). refAlt x x) (stands-part (left seq _ h))
   na-edit-content k (swap a b) h =
       let f : part s (span k 1) ≡ a ∷ [] = stands-part (left (a ∷ []) _ h) in
@@ -93,7 +93,7 @@ module _ (s : List ℕ) where
   na-edit-content k (invNum ds) h = refl
   na-edit-content k (inv seq) h = ap invRef (stands-part (right (ascii "inv") h))
 
-  mu-na-edit-content : (k : ℕ) (e : Mu NaEdit) → Stands s k (printMu printNaEdit e) → muNaEditContent s (muNaEditAt k e) ≡ mapMu meaningNaEdit e
+  mu-na-edit-content : (k : ℕ) (e : Mu NaEditTree) → Stands s k (printMu printNaEdit e) → muNaEditContent s (muNaEditAt k e) ≡ mapMu meaningNaEdit e
   mu-na-edit-content k (certain e) h = ap certain (na-edit-content k e h)
   mu-na-edit-content k (uncertain e) h = ap uncertain (na-edit-content (k + 1) e (inner h))
 
@@ -117,20 +117,20 @@ module _ (s : List ℕ) where
       let g = optional-content (k + 3) a (left (printOptional [] a) _ (right (ascii "ext") h)) in
       cc
 
-  protein-edit-content : (k : ℕ) (e : ProteinEdit) → Stands s k (printProteinEdit e) → proteinEditContent s (proteinEditAt k e) ≡ meaningProteinEdit e
-  protein-edit-content k (P.ProteinEdit.subst r) h = ap substV (stands-part h)
-  protein-edit-content k P.ProteinEdit.substUnknown h = ap substV (stands-part h)
-  protein-edit-content k P.ProteinEdit.equal h = refl
-  protein-edit-content k P.ProteinEdit.del h = refl
-  protein-edit-content k P.ProteinEdit.dup h = refl
-  protein-edit-content k (P.ProteinEdit.ins rs) h = ap insPV (stands-part (right (ascii "ins") h))
-  protein-edit-content k (P.ProteinEdit.delIns rs) h = ap delInsV (stands-part (right (ascii "delins") h))
-  protein-edit-content k (P.ProteinEdit.fs r e) h =
+  protein-edit-content : (k : ℕ) (e : ProteinEditTree) → Stands s k (printProteinEdit e) → proteinEditContent s (proteinEditAt k e) ≡ meaningProteinEdit e
+  protein-edit-content k (P.ProteinEditTree.subst r) h = ap substV (stands-part h)
+  protein-edit-content k P.ProteinEditTree.substUnknown h = ap substV (stands-part h)
+  protein-edit-content k P.ProteinEditTree.equal h = refl
+  protein-edit-content k P.ProteinEditTree.del h = refl
+  protein-edit-content k P.ProteinEditTree.dup h = refl
+  protein-edit-content k (P.ProteinEditTree.ins rs) h = ap insPV (stands-part (right (ascii "ins") h))
+  protein-edit-content k (P.ProteinEditTree.delIns rs) h = ap delInsV (stands-part (right (ascii "delins") h))
+  protein-edit-content k (P.ProteinEditTree.fs r e) h =
       fs-content (partOf k r) r _ e (optional-content k r (left (printOptional [] r) _ h)) (right (printOptional [] r) h)
-  protein-edit-content k (P.ProteinEdit.ext r e) h =
+  protein-edit-content k (P.ProteinEditTree.ext r e) h =
       ext-content (partOf k r) r _ e (optional-content k r (left (printOptional [] r) _ h)) (right (printOptional [] r) h)
 
-  mu-protein-edit-content : (k : ℕ) (e : Mu ProteinEdit) → Stands s k (printMu printProteinEdit e) → muProteinEditContent s (muProteinEditAt k e) ≡ mapMu meaningProteinEdit e
+  mu-protein-edit-content : (k : ℕ) (e : Mu ProteinEditTree) → Stands s k (printMu printProteinEdit e) → muProteinEditContent s (muProteinEditAt k e) ≡ mapMu meaningProteinEdit e
   mu-protein-edit-content k (certain e) h = ap certain (protein-edit-content k e h)
   mu-protein-edit-content k (uncertain e) h = ap uncertain (protein-edit-content (k + 1) e (inner h))
 
@@ -152,14 +152,14 @@ module _ (s : List ℕ) where
       let g = protein-edit-content (k + 1 + length (printEnds Prot i)) e (right (printEnds Prot i) (inner h)) in
       cc
 
-  na-body-content : (kind : Kind) (k : ℕ) (l : Location kind) (e : Mu NaEdit) → Stands s k (printLocation kind l ++ printMu printNaEdit e)
+  na-body-content : (kind : Kind) (k : ℕ) (l : LocationTree kind) (e : Mu NaEditTree) → Stands s k (printLocation kind l ++ printMu printNaEdit e)
       → _≡_ {A = Both _ _} (both (locationContent s kind (locationAt kind k l)) (muNaEditContent s (muNaEditAt (k + length (printLocation kind l)) e))) (both (mapMu (meaningEnds kind) l) (mapMu meaningNaEdit e))
   na-body-content kind k l e h =
       let f = location-content kind k l (left (printLocation kind l) _ h) in
       let g = mu-na-edit-content (k + length (printLocation kind l)) e (right (printLocation kind l) h) in
       cc
 
-  body-content : (kind : Kind) (k : ℕ) (b : Body kind) (v : _) → Stands s k (printBody kind b) → bodyContent s v (bodyAt kind k b) ≡ value v kind (meaningBody kind b)
+  body-content : (kind : Kind) (k : ℕ) (b : BodyTree kind) (v : _) → Stands s k (printBody kind b) → bodyContent s v (bodyAt kind k b) ≡ value v kind (meaningBody kind b)
   body-content Cds k (both l e) v h = ap (value v Cds) (na-body-content Cds k l e h)
   body-content Genome k (both l e) v h = ap (value v Genome) (na-body-content Genome k l e h)
   body-content Mt k (both l e) v h = ap (value v Mt) (na-body-content Mt k l e h)
@@ -172,7 +172,7 @@ module _ (s : List ℕ) where
   gene-content k none h = refl
   gene-content k (some g) h = ap some (stands-part (inner h))
 
-  header-content : (k : ℕ) (x : Header) → Stands s k (printHeader x) → headerContent s (headerAt k x) ≡ meaningHeader x
+  header-content : (k : ℕ) (x : HeaderTree) → Stands s k (printHeader x) → headerContent s (headerAt k x) ≡ meaningHeader x
   header-content k (header a gene) h =
       let f = stands-part (left (printAccession a) _ h) in
       let g = gene-content (k + length (printAccession a)) gene (right (printAccession a) h) in

@@ -8,9 +8,9 @@ use mathlib.Core.Option.{Option, none, some}
 use lib.IntN.{ℤ, pos, negsuc}
 use Rattle.texts.specs.Ascii.{ascii}
 use Rattle.texts.specs.Tables.{Each, Agree, agreed}
-use Rattle.number.specs.declared.Sign.the-variants.{Plain, Minus, Negated}
-use Rattle.number.specs.Digits.{valFrom}
-use Rattle.number.specs.Reading.{orZero}
+use Rattle.numerals.specs.declared.Sign.the-variants.{Plain, Minus, Negated}
+use Rattle.numerals.specs.Digits.{valFrom}
+use Rattle.numerals.specs.Reading.{orZero}
 use Rattle.record.specs.declared.Kind.{Kind}
 use Rattle.record.specs.declared.Kind.the-variants.{Cds, Genome, Mt, Tx, Prot, Rna}
 use Rattle.record.specs.declared.Offset.the-variants.{Absent, By}
@@ -20,12 +20,12 @@ use Rattle.record.specs.declared.CdsPos.{CdsPos}
 use Rattle.record.specs.declared.GenomePos.the-variants as G
 use Rattle.record.specs.declared.MtPos.the-variants as M
 use Rattle.record.specs.declared.UncertainLengthChange.the-variants.{None, Unknown, Known}
-use Rattle.grammar.specs.Header.{Accession.accession, Header, Header.header, printHeader, printKind}
-use Rattle.grammar.specs.Positions.{Mark.bare, Mark.plus, Mark.minus, Mark.star, Offset.absent, Offset.ahead, Offset.back, Based, Based.based, Genomic.known, Genomic.unknown, Residual.residual, printPosition}
+use Rattle.grammar.specs.Header.{Accession.accession, HeaderTree, HeaderTree.header, printHeader, printKind}
+use Rattle.grammar.specs.Positions.{Mark.bare, Mark.plus, Mark.minus, Mark.star, OffsetTree.absent, OffsetTree.ahead, OffsetTree.back, Based, Based.based, Genomic.known, Genomic.unknown, Residual.residual, printPosition}
 use Rattle.grammar.specs.Shapes.{Interval.one, Interval.two, Mu.certain, Mu.uncertain, Both.both}
-use Rattle.grammar.specs.NucleotideEdits.{NaEdit.equal, NaEdit.swap, NaEdit.delIns, NaEdit.delNumIns, NaEdit.delNum, NaEdit.del, NaEdit.ins, NaEdit.dup, NaEdit.invNum, NaEdit.inv, printNaEdit}
+use Rattle.grammar.specs.NucleotideEdits.{NaEditTree.equal, NaEditTree.swap, NaEditTree.delIns, NaEditTree.delNumIns, NaEditTree.delNum, NaEditTree.del, NaEditTree.ins, NaEditTree.dup, NaEditTree.invNum, NaEditTree.inv, printNaEdit}
 use Rattle.grammar.specs.ProteinEdits as P
-use Rattle.grammar.specs.ProteinEdits.{ProteinEdit, ProteinEdit.subst, ProteinEdit.substUnknown, ProteinEdit.fs, ProteinEdit.ext, Terminal.ter, Terminal.x, Length.counted, Length.unsaid, Stop.stop, ExtEnd.nothing, ExtEnd.later, ExtEnd.earlier, printProteinEdit}
+use Rattle.grammar.specs.ProteinEdits.{ProteinEditTree, ProteinEditTree.subst, ProteinEditTree.substUnknown, ProteinEditTree.fs, ProteinEditTree.ext, Terminal.ter, Terminal.x, Length.counted, Length.unsaid, Stop.stop, ExtEnd.nothing, ExtEnd.later, ExtEnd.earlier, printProteinEdit}
 use Rattle.grammar.specs.Bodies.{Ends, ProteinBody.met1, ProteinBody.bracketedMet1, ProteinBody.noProteinUncertain, ProteinBody.noProtein, ProteinBody.noChangeUncertain, ProteinBody.noChange, ProteinBody.change, ProteinBody.bracketed, printBody}
 use Rattle.grammar.specs.Bodies as B
 use Rattle.grammar.specs.Texts.{Text, Text.text, print}
@@ -36,13 +36,13 @@ use Rattle.grammar.specs.Numbers.{Numeral, Numeral.numeral, misfit, numb
 
 -- ---- trees
 -- AB_12.3, with or without a gene
-abbrev pub named : Option (List ℕ) → Header
+abbrev pub named : Option (List ℕ) → HeaderTree
 named gene = header (accession (code "A") (ascii "B") (some (ascii "12")) (some (ascii "3"))) gene
 
 abbrev pub residueAt : String → String → Ends Prot
 residueAt r ds = one (residual (ascii r) (ascii ds))
 
-abbrev pub arg : ProteinEdit
+abbrev pub arg : ProteinEditTree
 arg = subst (ascii "Arg")
 
 abbrev pub intronic : Text
@@ -100,11 +100,11 @@ prints =
     (printNaEdit (inv (ascii "AC")), ascii "invAC") ∷
     (printProteinEdit arg, ascii "Arg") ∷
     (printProteinEdit substUnknown, ascii "?") ∷
-    (printProteinEdit P.ProteinEdit.equal, ascii "=") ∷
-    (printProteinEdit P.ProteinEdit.del, ascii "del") ∷
-    (printProteinEdit P.ProteinEdit.dup, ascii "dup") ∷
-    (printProteinEdit (P.ProteinEdit.ins (ascii "ArgGly")), ascii "insArgGly") ∷
-    (printProteinEdit (P.ProteinEdit.delIns (ascii "RG")), ascii "delinsRG") ∷
+    (printProteinEdit P.ProteinEditTree.equal, ascii "=") ∷
+    (printProteinEdit P.ProteinEditTree.del, ascii "del") ∷
+    (printProteinEdit P.ProteinEditTree.dup, ascii "dup") ∷
+    (printProteinEdit (P.ProteinEditTree.ins (ascii "ArgGly")), ascii "insArgGly") ∷
+    (printProteinEdit (P.ProteinEditTree.delIns (ascii "RG")), ascii "delinsRG") ∷
     (printProteinEdit (fs none none), ascii "fs") ∷
     (printProteinEdit (fs (some (ascii "Arg")) (some (stop ter (counted (ascii "9"))))), ascii "ArgfsTer9") ∷
     (printProteinEdit (ext none nothing), ascii "ext") ∷
@@ -171,11 +171,11 @@ abbrev pub proteinValues : List (ProteinEditV × ProteinEditV)
 proteinValues =
     (meaningProteinEdit arg, substV (ascii "Arg")) ∷
     (meaningProteinEdit substUnknown, substV (ascii "?")) ∷
-    (meaningProteinEdit P.ProteinEdit.equal, identV) ∷
-    (meaningProteinEdit P.ProteinEdit.del, delV) ∷
-    (meaningProteinEdit P.ProteinEdit.dup, dupPV) ∷
-    (meaningProteinEdit (P.ProteinEdit.ins (ascii "RG")), insPV (ascii "RG")) ∷
-    (meaningProteinEdit (P.ProteinEdit.delIns (ascii "RG")), delInsV (ascii "RG")) ∷
+    (meaningProteinEdit P.ProteinEditTree.equal, identV) ∷
+    (meaningProteinEdit P.ProteinEditTree.del, delV) ∷
+    (meaningProteinEdit P.ProteinEditTree.dup, dupPV) ∷
+    (meaningProteinEdit (P.ProteinEditTree.ins (ascii "RG")), insPV (ascii "RG")) ∷
+    (meaningProteinEdit (P.ProteinEditTree.delIns (ascii "RG")), delInsV (ascii "RG")) ∷
     (meaningProteinEdit (fs (some (ascii "Arg")) (some (stop ter (counted (ascii "9"))))), fsV (some (ascii "Arg")) (some (ascii "Ter")) (Known (pos 9))) ∷
     (meaningProteinEdit (fs none none), fsV none none None) ∷
     (meaningProteinEdit (ext none (later (stop x P.Length.unknown))), extV none (some (ascii "X")) Unknown) ∷

@@ -44,11 +44,11 @@ kind-length Tx = refl
 kind-length Prot = refl
 kind-length Rna = refl
 
-pub data Header : Type 0 where
-  header : Accession → Option (List ℕ) → Header
+pub data HeaderTree : Type 0 where
+  header : Accession → Option (List ℕ) → HeaderTree
 
-abbrev pub printHeader : Header → List ℕ
+abbrev pub printHeader : HeaderTree → List ℕ
 printHeader (header a gene) = printAccession a ++ printGene gene
 
-abbrev pub WfHeader : Header → Type 0
+abbrev pub WfHeader : HeaderTree → Type 0
 WfHeader (header a gene) = WfAccession a × WfOptional (Some alphanumeric) gene

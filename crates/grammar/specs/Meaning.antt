@@ -4,10 +4,10 @@ use mathlib.Core.List.{List, [], _∷_}
 use mathlib.Core.Option.{Option, none, some}
 use lib.IntN.{ℤ}
 use Rattle.texts.specs.Ascii.{ascii}
-use Rattle.number.specs.declared.Sign.{Sign}
-use Rattle.number.specs.declared.Sign.the-variants.{Plain, Minus, Negated}
-use Rattle.number.specs.Digits.{val}
-use Rattle.number.specs.Reading.{orZero}
+use Rattle.numerals.specs.declared.Sign.{Sign}
+use Rattle.numerals.specs.declared.Sign.the-variants.{Plain, Minus, Negated}
+use Rattle.numerals.specs.Digits.{val}
+use Rattle.numerals.specs.Reading.{orZero}
 use Rattle.record.specs.declared.Kind.{Kind}
 use Rattle.record.specs.declared.Kind.the-variants.{Cds, Genome, Mt, Tx, Prot, Rna}
 use Rattle.record.specs.declared.Offset as Declared
@@ -23,13 +23,13 @@ use Rattle.record.specs.declared.TxPos.{TxPos}
 use Rattle.record.specs.declared.RnaPos.{RnaPos}
 use Rattle.record.specs.declared.UncertainLengthChange.{UncertainLengthChange}
 use Rattle.record.specs.declared.UncertainLengthChange.the-variants.{None, Unknown, Known}
-use Rattle.grammar.specs.Header.{Header, Header.header, printAccession}
-use Rattle.grammar.specs.Positions.{Mark, Mark.bare, Mark.plus, Mark.minus, Mark.star, Offset, Offset.absent, Offset.ahead, Offset.back, Based, Based.based, Genomic, Genomic.known, Genomic.unknown, Residual, Residual.residual, Position}
+use Rattle.grammar.specs.Header.{HeaderTree, HeaderTree.header, printAccession}
+use Rattle.grammar.specs.Positions.{Mark, Mark.bare, Mark.plus, Mark.minus, Mark.star, OffsetTree, OffsetTree.absent, OffsetTree.ahead, OffsetTree.back, Based, Based.based, Genomic, Genomic.known, Genomic.unknown, Residual, Residual.residual, PositionTree}
 use Rattle.grammar.specs.Shapes.{Interval, Interval.one, Interval.two, Mu, Mu.certain, Mu.uncertain, Both, Both.both}
-use Rattle.grammar.specs.NucleotideEdits.{NaEdit, NaEdit.equal, NaEdit.swap, NaEdit.delIns, NaEdit.delNumIns, NaEdit.delNum, NaEdit.del, NaEdit.ins, NaEdit.dup, NaEdit.invNum, NaEdit.inv}
+use Rattle.grammar.specs.NucleotideEdits.{NaEditTree, NaEditTree.equal, NaEditTree.swap, NaEditTree.delIns, NaEditTree.delNumIns, NaEditTree.delNum, NaEditTree.del, NaEditTree.ins, NaEditTree.dup, NaEditTree.invNum, NaEditTree.inv}
 use Rattle.grammar.specs.ProteinEdits as P
-use Rattle.grammar.specs.ProteinEdits.{ProteinEdit, Length, Length.counted, Length.unsaid, Stop, Stop.stop, ExtEnd, ExtEnd.nothing, ExtEnd.later, ExtEnd.earlier, printTerminal}
-use Rattle.grammar.specs.Bodies.{Ends, NaBody, ProteinBody, ProteinBody.met1, ProteinBody.bracketedMet1, ProteinBody.noProteinUncertain, ProteinBody.noProtein, ProteinBody.noChangeUncertain, ProteinBody.noChange, ProteinBody.change, ProteinBody.bracketed, Body}
+use Rattle.grammar.specs.ProteinEdits.{ProteinEditTree, Length, Length.counted, Length.unsaid, Stop, Stop.stop, ExtEnd, ExtEnd.nothing, ExtEnd.later, ExtEnd.earlier, printTerminal}
+use Rattle.grammar.specs.Bodies.{Ends, NaBody, ProteinBody, ProteinBody.met1, ProteinBody.bracketedMet1, ProteinBody.noProteinUncertain, ProteinBody.noProtein, ProteinBody.noChangeUncertain, ProteinBody.noChange, ProteinBody.change, ProteinBody.bracketed, BodyTree}
 use Rattle.grammar.specs.Bodies as B
 use Rattle.grammar.specs.Texts.{Text, Text.text}
 use Rattle.grammar.specs.Values.{ProtPosV, ProtPosV.protPosV, PositionV, EndsV, NaEditV, NaEditV.refAlt, NaEditV.numAlt, NaEditV.delRef, NaEditV.delNum, NaEditV.insV, NaEditV.dupV, NaEditV.invRef, NaEditV.invNum, ProteinEditV, ProteinEditV.fsV, ProteinEditV.extV, ProteinEditV.substV, ProteinEditV.delInsV, ProteinEditV.insPV, ProteinEditV.delV, ProteinEditV.dupPV, ProteinEditV.identV, NaBodyV, ProteinBodyV, ProteinBodyV.ordinary, ProteinBodyV.noChangeV, ProteinBodyV.noChangeUncertainV, ProteinBodyV.noProteinV, ProteinBodyV.noProteinUncertainV, ProteinBodyV.unknownV, ProteinBodyV.initiationUncertain, BodyV, HeaderV, HeaderV.headerV, Value, Value.value}
@@ -52,7 +52,7 @@ fromOf minus = Start
 fromOf star = End
 
 -- `+0` is an offset of 0, which differs from no offset
-abbrev pub offsetOf : Offset → Declared.Offset
+abbrev pub offsetOf : OffsetTree → Declared.Offset
 offsetOf absent = Absent
 offsetOf (ahead ds) = By (number Plain ds)
 offsetOf (back ds) = By (number Minus ds)
@@ -77,7 +77,7 @@ meaningMt unknown = UnknownM
 abbrev pub meaningProt : Residual → ProtPosV
 meaningProt (residual r ds) = protPosV r (number Plain ds)
 
-abbrev pub meaningPosition : (k : Kind) → Position k → PositionV k
+abbrev pub meaningPosition : (k : Kind) → PositionTree k → PositionV k
 meaningPosition Cds = meaningCds
 meaningPosition Genome = meaningGenome
 meaningPosition Mt = meaningMt
@@ -101,7 +101,7 @@ abbrev pub meaningEnds : (k : Kind) → Ends k → EndsV k
 meaningEnds k = meaningInterval (meaningPosition k)
 
 -- ---- nucleotide edits
-abbrev pub meaningNaEdit : NaEdit → NaEditV
+abbrev pub meaningNaEdit : NaEditTree → NaEditV
 meaningNaEdit (equal seq) = refAlt seq seq
 meaningNaEdit (swap a b) = refAlt (a ∷ []) (b ∷ [])
 meaningNaEdit (delIns seq seq1) = refAlt seq seq1
@@ -132,16 +132,16 @@ meaningExt r nothing = extV r none None
 meaningExt r (later (stop t n)) = extV r (some (printTerminal t)) (lengthOf n)
 meaningExt r (earlier q ds) = extV r q (Known (number Negated ds))
 
-abbrev pub meaningProteinEdit : ProteinEdit → ProteinEditV
-meaningProteinEdit (P.ProteinEdit.subst r) = substV r
-meaningProteinEdit P.ProteinEdit.substUnknown = substV (ascii "?")
-meaningProteinEdit P.ProteinEdit.equal = identV
-meaningProteinEdit P.ProteinEdit.del = delV
-meaningProteinEdit P.ProteinEdit.dup = dupPV
-meaningProteinEdit (P.ProteinEdit.ins rs) = insPV rs
-meaningProteinEdit (P.ProteinEdit.delIns rs) = delInsV rs
-meaningProteinEdit (P.ProteinEdit.fs r e) = meaningFs r e
-meaningProteinEdit (P.ProteinEdit.ext r e) = meaningExt r e
+abbrev pub meaningProteinEdit : ProteinEditTree → ProteinEditV
+meaningProteinEdit (P.ProteinEditTree.subst r) = substV r
+meaningProteinEdit P.ProteinEditTree.substUnknown = substV (ascii "?")
+meaningProteinEdit P.ProteinEditTree.equal = identV
+meaningProteinEdit P.ProteinEditTree.del = delV
+meaningProteinEdit P.ProteinEditTree.dup = dupPV
+meaningProteinEdit (P.ProteinEditTree.ins rs) = insPV rs
+meaningProteinEdit (P.ProteinEditTree.delIns rs) = delInsV rs
+meaningProteinEdit (P.ProteinEditTree.fs r e) = meaningFs r e
+meaningProteinEdit (P.ProteinEditTree.ext r e) = meaningExt r e
 
 abbrev pub bothUncertain : {A B : Type 0} → Both A B → Both (Mu A) (Mu B)
 bothUncertain (both a b) = both (uncertain a) (uncertain b)
@@ -158,7 +158,7 @@ meaningProteinBody B.ProteinBody.unknown = unknownV
 meaningProteinBody (change b) = ordinary (mapBoth (mapMu (meaningEnds Prot)) (mapMu meaningProteinEdit) b)
 meaningProteinBody (bracketed b) = ordinary (bothUncertain (mapBoth (meaningEnds Prot) meaningProteinEdit b))
 
-abbrev pub meaningBody : (k : Kind) → Body k → BodyV k
+abbrev pub meaningBody : (k : Kind) → BodyTree k → BodyV k
 meaningBody Cds = meaningNaBody Cds
 meaningBody Genome = meaningNaBody Genome
 meaningBody Mt = meaningNaBody Mt
@@ -167,7 +167,7 @@ meaningBody Prot = meaningProteinBody
 meaningBody Rna = meaningNaBody Rna
 
 -- ---- the header, and the whole
-abbrev pub meaningHeader : Header → HeaderV
+abbrev pub meaningHeader : HeaderTree → HeaderV
 meaningHeader (header a gene) = headerV (printAccession a) gene
 
 abbrev pub meaning : Text → Value

@@ -8,16 +8,16 @@ use Rattle.texts.specs.Runs.{every, Some}
 use Rattle.grammar.specs.Positions.{Digits}
 
 -- a row of the table, in its order
-pub data NaEdit : Type 0 where
-  equal : List ℕ → NaEdit
-  swap : ℕ → ℕ → NaEdit
-  delIns : List ℕ → List ℕ → NaEdit
-  delNumIns : List ℕ → List ℕ → NaEdit
-  delNum del : List ℕ → NaEdit
-  ins dup : List ℕ → NaEdit
-  invNum inv : List ℕ → NaEdit
+pub data NaEditTree : Type 0 where
+  equal : List ℕ → NaEditTree
+  swap : ℕ → ℕ → NaEditTree
+  delIns : List ℕ → List ℕ → NaEditTree
+  delNumIns : List ℕ → List ℕ → NaEditTree
+  delNum del : List ℕ → NaEditTree
+  ins dup : List ℕ → NaEditTree
+  invNum inv : List ℕ → NaEditTree
 
-abbrev pub printNaEdit : NaEdit → List ℕ
+abbrev pub printNaEdit : NaEditTree → List ℕ
 printNaEdit (equal seq) = seq ++ ascii "="
 printNaEdit (swap a b) = a ∷ (ascii ">" ++ (b ∷ []))
 printNaEdit (delIns seq seq1) = ascii "del" ++ (seq ++ (ascii "ins" ++ seq1))
@@ -37,7 +37,7 @@ module _ (na : ℕ → Bool) where
   abbrev pub Seq1 : List ℕ → Type 0
   Seq1 s = Some na s
 
-  abbrev pub WfNaEdit : NaEdit → Type 0
+  abbrev pub WfNaEdit : NaEditTree → Type 0
   WfNaEdit (equal seq) = Seq seq
   WfNaEdit (swap a b) = (na a ≡ true) × (na b ≡ true)
   WfNaEdit (delIns seq seq1) = Seq seq × Seq1 seq1

@@ -8,10 +8,10 @@ use mathlib.Core.Bool.{Bool, true, false, cond, _&&_}
 use lib.IntN.{ℤ}
 use borrow.Author.Tests.{leb-true, le-leb}
 use Rattle.texts.specs.Tests.{none-some, and-true, true-and}
-use Rattle.number.specs.declared.Sign.{Sign}
-use Rattle.number.specs.Digits.{val}
-use Rattle.number.specs.Reading.{fits, most, isPlain}
-use Rattle.number.specs.Written.{Written}
+use Rattle.numerals.specs.declared.Sign.{Sign}
+use Rattle.numerals.specs.Digits.{val}
+use Rattle.numerals.specs.Reading.{fits, most, isPlain}
+use Rattle.numerals.specs.Written.{Written}
 use Rattle.grammar.specs.Numbers.{Numeral, Numeral.numeral, misfit, Faultless}
 
 -- every number passes a test

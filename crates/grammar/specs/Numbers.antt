@@ -5,20 +5,20 @@ use mathlib.Core.List.{List, [], _∷_, _++_}
 use mathlib.Core.Option.{Option, none, some}
 use mathlib.Core.Bool.{cond}
 use lib.ListN.{length}
-use Rattle.number.specs.declared.Sign.{Sign}
-use Rattle.number.specs.declared.Sign.the-variants.{Plain, Minus, Negated}
-use Rattle.number.specs.Digits.{val}
-use Rattle.number.specs.Reading.{fits}
+use Rattle.numerals.specs.declared.Sign.{Sign}
+use Rattle.numerals.specs.declared.Sign.the-variants.{Plain, Minus, Negated}
+use Rattle.numerals.specs.Digits.{val}
+use Rattle.numerals.specs.Reading.{fits}
 use Rattle.record.specs.declared.Kind.{Kind}
 use Rattle.record.specs.declared.Kind.the-variants.{Cds, Genome, Mt, Tx, Prot, Rna}
 use Rattle.grammar.specs.Header.{printHeader, printKind}
-use Rattle.grammar.specs.Positions.{Offset, Offset.absent, Offset.ahead, Offset.back, Based, Based.based, Genomic, Genomic.known, Genomic.unknown, Residual, Residual.residual, Position, printMark, printPosition}
+use Rattle.grammar.specs.Positions.{OffsetTree, OffsetTree.absent, OffsetTree.ahead, OffsetTree.back, Based, Based.based, Genomic, Genomic.known, Genomic.unknown, Residual, Residual.residual, PositionTree, printMark, printPosition}
 use Rattle.grammar.specs.Shapes.{Interval.one, Interval.two, Mu, Mu.certain, Mu.uncertain, Both.both}
-use Rattle.grammar.specs.NucleotideEdits.{NaEdit, NaEdit.equal, NaEdit.swap, NaEdit.delIns, NaEdit.delNumIns, NaEdit.delNum, NaEdit.del, NaEdit.ins, NaEdit.dup, NaEdit.invNum, NaEdit.inv}
+use Rattle.grammar.specs.NucleotideEdits.{NaEditTree, NaEditTree.equal, NaEditTree.swap, NaEditTree.delIns, NaEditTree.delNumIns, NaEditTree.delNum, NaEditTree.del, NaEditTree.ins, NaEditTree.dup, NaEditTree.invNum, NaEditTree.inv}
 use Rattle.grammar.specs.Optional.{printOptional}
 use Rattle.grammar.specs.ProteinEdits as P
-use Rattle.grammar.specs.ProteinEdits.{ProteinEdit, Length, Length.counted, Length.unsaid, Stop, Stop.stop, ExtEnd, ExtEnd.nothing, ExtEnd.later, ExtEnd.earlier, printTerminal}
-use Rattle.grammar.specs.Bodies.{Ends, printEnds, printLocation, NaBody, ProteinBody, ProteinBody.met1, ProteinBody.bracketedMet1, ProteinBody.noProteinUncertain, ProteinBody.noProtein, ProteinBody.noChangeUncertain, ProteinBody.noChange, ProteinBody.unknown, ProteinBody.change, ProteinBody.bracketed, Body}
+use Rattle.grammar.specs.ProteinEdits.{ProteinEditTree, Length, Length.counted, Length.unsaid, Stop, Stop.stop, ExtEnd, ExtEnd.nothing, ExtEnd.later, ExtEnd.earlier, printTerminal}
+use Rattle.grammar.specs.Bodies.{Ends, printEnds, printLocation, NaBody, ProteinBody, ProteinBody.met1, ProteinBody.bracketedMet1, ProteinBody.noProteinUncertain, ProteinBody.noProtein, ProteinBody.noChangeUncertain, ProteinBody.noChange, ProteinBody.unknown, ProteinBody.change, ProteinBody.bracketed, BodyTree}
 use Rattle.grammar.specs.Texts.{Text, Text.text}
 use Rattle.grammar.specs.Meaning.{signOf}
 
@@ -36,7 +36,7 @@ unfoldable pub Faultless : List Numeral → Type 0
 Faultless ns = misfit ns ≡ none
 
 -- ---- positions
-abbrev pub offsetNumbers : ℕ → Offset → List Numeral
+abbrev pub offsetNumbers : ℕ → OffsetTree → List Numeral
 offsetNumbers k absent = []
 offsetNumbers k (ahead ds) = numeral (k + 1) Plain ds ∷ []
 offsetNumbers k (back ds) = numeral (k + 1) Minus ds ∷ []
@@ -51,7 +51,7 @@ genomicNumbers k unknown = []
 abbrev pub residualNumbers : ℕ → Residual → List Numeral
 residualNumbers k (residual r ds) = numeral (k + length r) Plain ds ∷ []
 
-abbrev pub positionNumbers : (kind : Kind) → ℕ → Position kind → List Numeral
+abbrev pub positionNumbers : (kind : Kind) → ℕ → PositionTree kind → List Numeral
 positionNumbers Cds = basedNumbers
 positionNumbers Genome = genomicNumbers
 positionNumbers Mt = genomicNumbers
@@ -69,7 +69,7 @@ muNumbers numbers k (certain a) = numbers k a
 muNumbers numbers k (uncertain a) = numbers (k + 1) a
 
 -- ---- nucleotide edits
-abbrev pub naEditNumbers : ℕ → NaEdit → List Numeral
+abbrev pub naEditNumbers : ℕ → NaEditTree → List Numeral
 naEditNumbers k (equal seq) = []
 naEditNumbers k (swap a b) = []
 naEditNumbers k (delIns seq seq1) = []
@@ -99,16 +99,16 @@ extNumbers k nothing = []
 extNumbers k (later e) = stopNumbers k e
 extNumbers k (earlier r ds) = numeral (k + length (printOptional [] r) + 1) Negated ds ∷ []
 
-abbrev pub proteinEditNumbers : ℕ → ProteinEdit → List Numeral
-proteinEditNumbers k (P.ProteinEdit.subst r) = []
-proteinEditNumbers k P.ProteinEdit.substUnknown = []
-proteinEditNumbers k P.ProteinEdit.equal = []
-proteinEditNumbers k P.ProteinEdit.del = []
-proteinEditNumbers k P.ProteinEdit.dup = []
-proteinEditNumbers k (P.ProteinEdit.ins rs) = []
-proteinEditNumbers k (P.ProteinEdit.delIns rs) = []
-proteinEditNumbers k (P.ProteinEdit.fs r e) = fsNumbers (k + length (printOptional [] r) + 2) e
-proteinEditNumbers k (P.ProteinEdit.ext r e) = extNumbers (k + length (printOptional [] r) + 3) e
+abbrev pub proteinEditNumbers : ℕ → ProteinEditTree → List Numeral
+proteinEditNumbers k (P.ProteinEditTree.subst r) = []
+proteinEditNumbers k P.ProteinEditTree.substUnknown = []
+proteinEditNumbers k P.ProteinEditTree.equal = []
+proteinEditNumbers k P.ProteinEditTree.del = []
+proteinEditNumbers k P.ProteinEditTree.dup = []
+proteinEditNumbers k (P.ProteinEditTree.ins rs) = []
+proteinEditNumbers k (P.ProteinEditTree.delIns rs) = []
+proteinEditNumbers k (P.ProteinEditTree.fs r e) = fsNumbers (k + length (printOptional [] r) + 2) e
+proteinEditNumbers k (P.ProteinEditTree.ext r e) = extNumbers (k + length (printOptional [] r) + 3) e
 
 -- ---- bodies, and the whole; the header's digits are no numbers
 abbrev pub naBodyNumbers : (kind : Kind) → ℕ → NaBody kind → List Numeral
@@ -125,7 +125,7 @@ proteinBodyNumbers k unknown = []
 proteinBodyNumbers k (change (both l e)) = muNumbers (endsNumbers Prot) k l ++ muNumbers proteinEditNumbers (k + length (printLocation Prot l)) e
 proteinBodyNumbers k (bracketed (both i e)) = endsNumbers Prot (k + 1) i ++ proteinEditNumbers (k + 1 + length (printEnds Prot i)) e
 
-abbrev pub bodyNumbers : (kind : Kind) → ℕ → Body kind → List Numeral
+abbrev pub bodyNumbers : (kind : Kind) → ℕ → BodyTree kind → List Numeral
 bodyNumbers Cds = naBodyNumbers Cds
 bodyNumbers Genome = naBodyNumbers Genome
 bodyNumbers Mt = naBodyNumbers Mt

@@ -8,17 +8,17 @@ use native.Mathlib.Omega.{arith}
 use native.Mathlib.Nat.{add-zero}
 use lib.ListN.{length, length-append}
 use Rattle.texts.specs.Ascii.{ascii}
-use Rattle.number.specs.declared.Sign.{Sign}
+use Rattle.numerals.specs.declared.Sign.{Sign}
 use Rattle.record.specs.declared.Kind.{Kind}
 use Rattle.record.specs.declared.Kind.the-variants.{Cds, Genome, Mt, Tx, Prot, Rna}
 use Rattle.grammar.specs.Header.{printHeader, printKind}
-use Rattle.grammar.specs.Positions.{Offset, Offset.absent, Offset.ahead, Offset.back, Based, Based.based, Genomic, Genomic.known, Genomic.unknown, Residual.residual, Position, printMark, printOffset, printBased, printGenomic, printPosition, Digits, WfOffset, WfBased, WfGenomic, WfPosition}
+use Rattle.grammar.specs.Positions.{OffsetTree, OffsetTree.absent, OffsetTree.ahead, OffsetTree.back, Based, Based.based, Genomic, Genomic.known, Genomic.unknown, Residual.residual, PositionTree, printMark, printOffset, printBased, printGenomic, printPosition, Digits, WfOffset, WfBased, WfGenomic, WfPosition}
 use Rattle.grammar.specs.Shapes.{Interval.one, Interval.two, Mu, Mu.certain, Mu.uncertain, Both.both, printMu, WfMu}
-use Rattle.grammar.specs.NucleotideEdits.{NaEdit, NaEdit.equal, NaEdit.swap, NaEdit.delIns, NaEdit.delNumIns, NaEdit.delNum, NaEdit.del, NaEdit.ins, NaEdit.dup, NaEdit.invNum, NaEdit.inv, printNaEdit, WfNaEdit}
+use Rattle.grammar.specs.NucleotideEdits.{NaEditTree, NaEditTree.equal, NaEditTree.swap, NaEditTree.delIns, NaEditTree.delNumIns, NaEditTree.delNum, NaEditTree.del, NaEditTree.ins, NaEditTree.dup, NaEditTree.invNum, NaEditTree.inv, printNaEdit, WfNaEdit}
 use Rattle.grammar.specs.Optional.{printOptional}
 use Rattle.grammar.specs.ProteinEdits as P
-use Rattle.grammar.specs.ProteinEdits.{ProteinEdit, Length.counted, Length.unsaid, Stop, Stop.stop, ExtEnd, ExtEnd.nothing, ExtEnd.later, ExtEnd.earlier, printTerminal, printStop, printFsEnd, printExtEnd, printProteinEdit, WfStop, WfFsEnd, WfExtEnd, WfProteinEdit}
-use Rattle.grammar.specs.Bodies.{Ends, printEnds, WfEnds, printLocation, NaBody, ProteinBody, ProteinBody.met1, ProteinBody.bracketedMet1, ProteinBody.noProteinUncertain, ProteinBody.noProtein, ProteinBody.noChangeUncertain, ProteinBody.noChange, ProteinBody.unknown, ProteinBody.change, ProteinBody.bracketed, Body, printNaBody, WfNaBody, printBody, WfBody, printProteinBody, WfProteinBody}
+use Rattle.grammar.specs.ProteinEdits.{ProteinEditTree, Length.counted, Length.unsaid, Stop, Stop.stop, ExtEnd, ExtEnd.nothing, ExtEnd.later, ExtEnd.earlier, printTerminal, printStop, printFsEnd, printExtEnd, printProteinEdit, WfStop, WfFsEnd, WfExtEnd, WfProteinEdit}
+use Rattle.grammar.specs.Bodies.{Ends, printEnds, WfEnds, printLocation, NaBody, ProteinBody, ProteinBody.met1, ProteinBody.bracketedMet1, ProteinBody.noProteinUncertain, ProteinBody.noProtein, ProteinBody.noChangeUncertain, ProteinBody.noChange, ProteinBody.unknown, ProteinBody.change, ProteinBody.bracketed, BodyTree, printNaBody, WfNaBody, printBody, WfBody, printProteinBody, WfProteinBody}
 use Rattle.grammar.specs.Texts.{Text, Text.text, print, Wf}
 use Rattle.grammar.specs.Numbers.{Numeral, Numeral.numeral, offsetNumbers, basedNumbers, genomicNumbers, positionNumbers, endsNumbers, muNumbers, naEditNumbers, stopNumbers, fsNumbers, extNumbers, proteinEditNumbers, naBodyNumbers, proteinBodyNumbers, bodyNumbers, numbersAt}
 
@@ -51,7 +51,7 @@ digits {k} {sign} {ds} d =
     rw (add-zero, append-nil) at r
 
 -- ---- positions
-offset-order : (k : ℕ) (o : Offset) → WfOffset o → InOrder k (offsetNumbers k o) (printOffset o)
+offset-order : (k : ℕ) (o : OffsetTree) → WfOffset o → InOrder k (offsetNumbers k o) (printOffset o)
 offset-order k absent w = noMore
 offset-order k (ahead ds) w = behind (ascii "+") (digits w)
 offset-order k (back ds) w = behind (ascii "-") (digits w)
@@ -63,7 +63,7 @@ genomic-order : (k : ℕ) (g : Genomic) → WfGenomic g → InOrder k (genomicNu
 genomic-order k (known ds) w = digits w
 genomic-order k unknown w = noMore
 
-position-order : (kind : Kind) (k : ℕ) (p : Position kind) → WfPosition kind p → InOrder k (positionNumbers kind k p) (printPosition kind p)
+position-order : (kind : Kind) (k : ℕ) (p : PositionTree kind) → WfPosition kind p → InOrder k (positionNumbers kind k p) (printPosition kind p)
 position-order Cds k p w = based-order k p w
 position-order Genome k p w = genomic-order k p w
 position-order Mt k p w = genomic-order k p w
@@ -81,7 +81,7 @@ mu-order show Right numbers f k (certain a) w = f k a w
 mu-order show Right numbers f k (uncertain a) w = behind (ascii "(") (before (ascii ")") (f (k + 1) a w))
 
 -- ---- edits
-na-edit-order : (na : ℕ → Bool) (k : ℕ) (e : NaEdit) → WfNaEdit na e → InOrder k (naEditNumbers k e) (printNaEdit e)
+na-edit-order : (na : ℕ → Bool) (k : ℕ) (e : NaEditTree) → WfNaEdit na e → InOrder k (naEditNumbers k e) (printNaEdit e)
 na-edit-order na k (equal seq) w = noMore
 na-edit-order na k (swap a b) w = noMore
 na-edit-order na k (delIns seq seq1) w = noMore
@@ -107,16 +107,16 @@ ext-order k nothing w = noMore
 ext-order k (later e) w = stop-order k e w
 ext-order k (earlier r ds) w = behind (printOptional [] r) (behind (ascii "-") (digits (w .1)))
 
-protein-edit-order : (k : ℕ) (e : ProteinEdit) → WfProteinEdit e → InOrder k (proteinEditNumbers k e) (printProteinEdit e)
-protein-edit-order k (P.ProteinEdit.subst r) w = noMore
-protein-edit-order k P.ProteinEdit.substUnknown w = noMore
-protein-edit-order k P.ProteinEdit.equal w = noMore
-protein-edit-order k P.ProteinEdit.del w = noMore
-protein-edit-order k P.ProteinEdit.dup w = noMore
-protein-edit-order k (P.ProteinEdit.ins rs) w = noMore
-protein-edit-order k (P.ProteinEdit.delIns rs) w = noMore
-protein-edit-order k (P.ProteinEdit.fs r e) w = behind (printOptional [] r) (behind (ascii "fs") (fs-order _ e (w .1)))
-protein-edit-order k (P.ProteinEdit.ext r e) w = behind (printOptional [] r) (behind (ascii "ext") (ext-order _ e (w .1)))
+protein-edit-order : (k : ℕ) (e : ProteinEditTree) → WfProteinEdit e → InOrder k (proteinEditNumbers k e) (printProteinEdit e)
+protein-edit-order k (P.ProteinEditTree.subst r) w = noMore
+protein-edit-order k P.ProteinEditTree.substUnknown w = noMore
+protein-edit-order k P.ProteinEditTree.equal w = noMore
+protein-edit-order k P.ProteinEditTree.del w = noMore
+protein-edit-order k P.ProteinEditTree.dup w = noMore
+protein-edit-order k (P.ProteinEditTree.ins rs) w = noMore
+protein-edit-order k (P.ProteinEditTree.delIns rs) w = noMore
+protein-edit-order k (P.ProteinEditTree.fs r e) w = behind (printOptional [] r) (behind (ascii "fs") (fs-order _ e (w .1)))
+protein-edit-order k (P.ProteinEditTree.ext r e) w = behind (printOptional [] r) (behind (ascii "ext") (ext-order _ e (w .1)))
 
 -- ---- bodies, and the whole
 na-body-order : (na : ℕ → Bool) (kind : Kind) (k : ℕ) (b : NaBody kind) → WfNaBody na kind b → InOrder k (naBodyNumbers kind k b) (printNaBody kind b)
@@ -139,7 +139,7 @@ protein-body-order k (bracketed (both i e)) w =
     behind (ascii "(") (before (ascii ")") (join (ends-order Prot (k + 1) i (w .0 .0)) (protein-edit-order (k + 1 + length (printEnds Prot i)) e (w .0 .1))))
 
 module _ (letters : Kind → ℕ → Bool) where
-  body-order : (kind : Kind) (k : ℕ) (b : Body kind) → WfBody letters kind b → InOrder k (bodyNumbers kind k b) (printBody kind b)
+  body-order : (kind : Kind) (k : ℕ) (b : BodyTree kind) → WfBody letters kind b → InOrder k (bodyNumbers kind k b) (printBody kind b)
   body-order Cds = na-body-order (letters Cds) Cds
   body-order Genome = na-body-order (letters Genome) Genome
   body-order Mt = na-body-order (letters Mt) Mt

@@ -8,9 +8,9 @@ use mathlib.Core.Bool.{Bool, true, false, cond}
 use native.Mathlib.Omega.{arith}
 use lib.ListN.{length}
 use Rattle.texts.specs.Tests.{clash, none-some}
-use Rattle.number.specs.declared.Sign.{Sign}
-use Rattle.number.specs.Digits.{val}
-use Rattle.number.specs.Reading.{fits}
+use Rattle.numerals.specs.declared.Sign.{Sign}
+use Rattle.numerals.specs.Digits.{val}
+use Rattle.numerals.specs.Reading.{fits}
 use Rattle.record.specs.declared.Kind.{Kind}
 use Rattle.grammar.specs.Positions.{Digits}
 use Rattle.grammar.specs.Texts.{Text, print, Wf}

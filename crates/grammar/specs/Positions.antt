@@ -15,13 +15,13 @@ pub data Mark : Type 0 where
   bare plus minus star : Mark
 
 -- optionally `+` or `-` with digits
-pub data Offset : Type 0 where
-  absent : Offset
-  ahead back : List ℕ → Offset
+pub data OffsetTree : Type 0 where
+  absent : OffsetTree
+  ahead back : List ℕ → OffsetTree
 
 -- c, n, r: a mark, digits, an offset
 pub data Based : Type 0 where
-  based : Mark → List ℕ → Offset → Based
+  based : Mark → List ℕ → OffsetTree → Based
 
 -- g, m: digits, or `?`
 pub data Genomic : Type 0 where
@@ -32,13 +32,13 @@ pub data Genomic : Type 0 where
 pub data Residual : Type 0 where
   residual : List ℕ → List ℕ → Residual
 
-abbrev pub Position : Kind → Type 0
-Position Cds = Based
-Position Genome = Genomic
-Position Mt = Genomic
-Position Tx = Based
-Position Prot = Residual
-Position Rna = Based
+abbrev pub PositionTree : Kind → Type 0
+PositionTree Cds = Based
+PositionTree Genome = Genomic
+PositionTree Mt = Genomic
+PositionTree Tx = Based
+PositionTree Prot = Residual
+PositionTree Rna = Based
 
 abbrev pub printMark : Mark → List ℕ
 printMark bare = []
@@ -46,7 +46,7 @@ printMark plus = ascii "+"
 printMark minus = ascii "-"
 printMark star = ascii "*"
 
-abbrev pub printOffset : Offset → List ℕ
+abbrev pub printOffset : OffsetTree → List ℕ
 printOffset absent = []
 printOffset (ahead ds) = ascii "+" ++ ds
 printOffset (back ds) = ascii "-" ++ ds
@@ -61,7 +61,7 @@ printGenomic unknown = ascii "?"
 abbrev pub printResidual : Residual → List ℕ
 printResidual (residual r ds) = r ++ ds
 
-abbrev pub printPosition : (k : Kind) → Position k → List ℕ
+abbrev pub printPosition : (k : Kind) → PositionTree k → List ℕ
 printPosition Cds = printBased
 printPosition Genome = printGenomic
 printPosition Mt = printGenomic
@@ -73,7 +73,7 @@ printPosition Rna = printBased
 abbrev pub Digits : List ℕ → Type 0
 Digits ds = Some digit ds
 
-abbrev pub WfOffset : Offset → Type 0
+abbrev pub WfOffset : OffsetTree → Type 0
 WfOffset absent = Unit
 WfOffset (ahead ds) = Digits ds
 WfOffset (back ds) = Digits ds
@@ -98,7 +98,7 @@ WfGenomic unknown = Unit
 abbrev pub WfResidual : Residual → Type 0
 WfResidual (residual r ds) = (isResidue r ≡ true) × Digits ds
 
-abbrev pub WfPosition : (k : Kind) → Position k → Type 0
+abbrev pub WfPosition : (k : Kind) → PositionTree k → Type 0
 WfPosition Cds = WfBased
 WfPosition Genome = WfGenomic
 WfPosition Mt = WfGenomic

@@ -28,12 +28,12 @@ pub data ExtEnd : Type 0 where
   later : Stop → ExtEnd
   earlier : Option (List ℕ) → List ℕ → ExtEnd
 
-pub data ProteinEdit : Type 0 where
-  subst : List ℕ → ProteinEdit
-  substUnknown equal del dup : ProteinEdit
-  ins delIns : List ℕ → ProteinEdit
-  fs : Option (List ℕ) → Option Stop → ProteinEdit
-  ext : Option (List ℕ) → ExtEnd → ProteinEdit
+pub data ProteinEditTree : Type 0 where
+  subst : List ℕ → ProteinEditTree
+  substUnknown equal del dup : ProteinEditTree
+  ins delIns : List ℕ → ProteinEditTree
+  fs : Option (List ℕ) → Option Stop → ProteinEditTree
+  ext : Option (List ℕ) → ExtEnd → ProteinEditTree
 
 abbrev pub printTerminal : Terminal → List ℕ
 printTerminal ter = ascii "Ter"
@@ -57,7 +57,7 @@ printExtEnd nothing = []
 printExtEnd (later e) = printStop e
 printExtEnd (earlier r ds) = printOptional [] r ++ (ascii "-" ++ ds)
 
-abbrev pub printProteinEdit : ProteinEdit → List ℕ
+abbrev pub printProteinEdit : ProteinEditTree → List ℕ
 printProteinEdit (subst r) = r
 printProteinEdit substUnknown = ascii "?"
 printProteinEdit equal = ascii "="
@@ -89,7 +89,7 @@ WfExtEnd (later e) = WfStop e
 WfExtEnd (earlier r ds) = WfOptional Residue r × Digits ds
 
 -- `ins` and `delins`: one or more residues, all of three letters or all of one
-abbrev pub WfProteinEdit : ProteinEdit → Type 0
+abbrev pub WfProteinEdit : ProteinEditTree → Type 0
 WfProteinEdit (subst r) = Residue r
 WfProteinEdit substUnknown = Unit
 WfProteinEdit equal = Unit

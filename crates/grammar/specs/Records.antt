@@ -3,7 +3,7 @@ use Prim.Native.Nat.{ℕ, _+_}
 use mathlib.Core.List.{List, []}
 use mathlib.Core.Option.{Option, none, some}
 use lib.ListN.{length}
-use Rattle.number.specs.declared.Sign.the-variants.{Plain, Negated}
+use Rattle.numerals.specs.declared.Sign.the-variants.{Plain, Negated}
 use Rattle.record.specs.declared.Span.{Span}
 use Rattle.record.specs.declared.Part.{Part}
 use Rattle.record.specs.declared.Part.the-variants.{Absent, Present}
@@ -48,14 +48,14 @@ use Rattle.record.specs.declared.Header as DH
 use Rattle.record.specs.declared.Body as DB
 use Rattle.record.specs.declared.Body.the-variants as Bo
 use Rattle.record.specs.declared.HgvsVariant.{HgvsVariant}
-use Rattle.grammar.specs.Header.{Header, Header.header, printAccession, printHeader, printKind}
-use Rattle.grammar.specs.Positions.{Residual, Residual.residual, Position, printPosition}
+use Rattle.grammar.specs.Header.{HeaderTree, HeaderTree.header, printAccession, printHeader, printKind}
+use Rattle.grammar.specs.Positions.{Residual, Residual.residual, PositionTree, printPosition}
 use Rattle.grammar.specs.Shapes.{Interval.one, Interval.two, Mu, Mu.certain, Mu.uncertain, Both.both}
-use Rattle.grammar.specs.NucleotideEdits.{NaEdit, NaEdit.equal, NaEdit.swap, NaEdit.delIns, NaEdit.delNumIns, NaEdit.delNum, NaEdit.del, NaEdit.ins, NaEdit.dup, NaEdit.invNum, NaEdit.inv}
+use Rattle.grammar.specs.NucleotideEdits.{NaEditTree, NaEditTree.equal, NaEditTree.swap, NaEditTree.delIns, NaEditTree.delNumIns, NaEditTree.delNum, NaEditTree.del, NaEditTree.ins, NaEditTree.dup, NaEditTree.invNum, NaEditTree.inv}
 use Rattle.grammar.specs.Optional.{printOptional}
 use Rattle.grammar.specs.ProteinEdits as P
-use Rattle.grammar.specs.ProteinEdits.{ProteinEdit, Stop, Stop.stop, ExtEnd, ExtEnd.nothing, ExtEnd.later, ExtEnd.earlier, printTerminal}
-use Rattle.grammar.specs.Bodies.{Ends, Location, printEnds, printLocation, ProteinBody, ProteinBody.met1, ProteinBody.bracketedMet1, ProteinBody.noProteinUncertain, ProteinBody.noProtein, ProteinBody.noChangeUncertain, ProteinBody.noChange, ProteinBody.unknown, ProteinBody.change, ProteinBody.bracketed, Body}
+use Rattle.grammar.specs.ProteinEdits.{ProteinEditTree, Stop, Stop.stop, ExtEnd, ExtEnd.nothing, ExtEnd.later, ExtEnd.earlier, printTerminal}
+use Rattle.grammar.specs.Bodies.{Ends, LocationTree, printEnds, printLocation, ProteinBody, ProteinBody.met1, ProteinBody.bracketedMet1, ProteinBody.noProteinUncertain, ProteinBody.noProtein, ProteinBody.noChangeUncertain, ProteinBody.noChange, ProteinBody.unknown, ProteinBody.change, ProteinBody.bracketed, BodyTree}
 use Rattle.grammar.specs.Texts.{Text, Text.text}
 use Rattle.grammar.specs.Meaning.{number, meaningCds, meaningGenome, meaningMt, meaningTx, meaningRna, lengthOf}
 
@@ -83,7 +83,7 @@ PositionR Rna = RnaPos
 abbrev pub protAt : ℕ → Residual → ProtPos
 protAt k (residual r ds) = record { aa = spanOf k r; number = number Plain ds }
 
-abbrev pub positionAt : (kind : Kind) → ℕ → Position kind → PositionR kind
+abbrev pub positionAt : (kind : Kind) → ℕ → PositionTree kind → PositionR kind
 positionAt Cds k = meaningCds
 positionAt Genome k = meaningGenome
 positionAt Mt k = meaningMt
@@ -136,12 +136,12 @@ uncertainly Prot = MuProt.Uncertain
 uncertainly Rna = MuRna.Uncertain
 
 -- behind `(` where it is uncertain
-abbrev pub locationAt : (kind : Kind) → ℕ → Location kind → MuIntervalR kind
+abbrev pub locationAt : (kind : Kind) → ℕ → LocationTree kind → MuIntervalR kind
 locationAt kind k (certain i) = certainly kind (intervalAt kind k i)
 locationAt kind k (uncertain i) = uncertainly kind (intervalAt kind (k + 1) i)
 
 -- ---- nucleotide edits
-abbrev pub naEditAt : ℕ → NaEdit → D.NaEdit
+abbrev pub naEditAt : ℕ → NaEditTree → D.NaEdit
 naEditAt k (equal seq) = Na.RefAlt (spanOf k seq) (spanOf k seq)
 naEditAt k (swap a b) = Na.RefAlt (span k 1) (span (k + 2) 1)
 naEditAt k (delIns seq seq1) = Na.RefAlt (spanOf (k + 3) seq) (spanOf (k + 3 + length seq + 3) seq1)
@@ -153,7 +153,7 @@ naEditAt k (dup seq) = Na.Dup (spanOf (k + 3) seq)
 naEditAt k (invNum ds) = Na.InvNum (number Plain ds)
 naEditAt k (inv seq) = Na.InvRef (spanOf (k + 3) seq)
 
-abbrev pub muNaEditAt : ℕ → Mu NaEdit → MuNaEdit
+abbrev pub muNaEditAt : ℕ → Mu NaEditTree → MuNaEdit
 muNaEditAt k (certain e) = MuNa.Certain (naEditAt k e)
 muNaEditAt k (uncertain e) = MuNa.Uncertain (naEditAt (k + 1) e)
 
@@ -167,18 +167,18 @@ extAt r k nothing = Pr.Ext r Absent None
 extAt r k (later (stop t n)) = Pr.Ext r (Present (spanOf (k + 3) (printTerminal t))) (lengthOf n)
 extAt r k (earlier q ds) = Pr.Ext r (partOf (k + 3) q) (Known (number Negated ds))
 
-abbrev pub proteinEditAt : ℕ → ProteinEdit → DP.ProteinEdit
-proteinEditAt k (P.ProteinEdit.subst r) = Pr.Subst (spanOf k r)
-proteinEditAt k P.ProteinEdit.substUnknown = Pr.Subst (span k 1)
-proteinEditAt k P.ProteinEdit.equal = Pr.Ident
-proteinEditAt k P.ProteinEdit.del = Pr.Del
-proteinEditAt k P.ProteinEdit.dup = Pr.Dup
-proteinEditAt k (P.ProteinEdit.ins rs) = Pr.Ins (spanOf (k + 3) rs)
-proteinEditAt k (P.ProteinEdit.delIns rs) = Pr.DelIns (spanOf (k + 6) rs)
-proteinEditAt k (P.ProteinEdit.fs r e) = fsAt (partOf k r) (k + length (printOptional [] r)) e
-proteinEditAt k (P.ProteinEdit.ext r e) = extAt (partOf k r) (k + length (printOptional [] r)) e
+abbrev pub proteinEditAt : ℕ → ProteinEditTree → DP.ProteinEdit
+proteinEditAt k (P.ProteinEditTree.subst r) = Pr.Subst (spanOf k r)
+proteinEditAt k P.ProteinEditTree.substUnknown = Pr.Subst (span k 1)
+proteinEditAt k P.ProteinEditTree.equal = Pr.Ident
+proteinEditAt k P.ProteinEditTree.del = Pr.Del
+proteinEditAt k P.ProteinEditTree.dup = Pr.Dup
+proteinEditAt k (P.ProteinEditTree.ins rs) = Pr.Ins (spanOf (k + 3) rs)
+proteinEditAt k (P.ProteinEditTree.delIns rs) = Pr.DelIns (spanOf (k + 6) rs)
+proteinEditAt k (P.ProteinEditTree.fs r e) = fsAt (partOf k r) (k + length (printOptional [] r)) e
+proteinEditAt k (P.ProteinEditTree.ext r e) = extAt (partOf k r) (k + length (printOptional [] r)) e
 
-abbrev pub muProteinEditAt : ℕ → Mu ProteinEdit → MuProteinEdit
+abbrev pub muProteinEditAt : ℕ → Mu ProteinEditTree → MuProteinEdit
 muProteinEditAt k (certain e) = MuPr.Certain (proteinEditAt k e)
 muProteinEditAt k (uncertain e) = MuPr.Uncertain (proteinEditAt (k + 1) e)
 
@@ -195,7 +195,7 @@ proteinBodyAt k (change (both l e)) = Ordinary (locationAt Prot k l) (muProteinE
 proteinBodyAt k (bracketed (both i e)) =
     Ordinary (uncertainly Prot (intervalAt Prot (k + 1) i)) (MuPr.Uncertain (proteinEditAt (k + 1 + length (printEnds Prot i)) e))
 
-abbrev pub bodyAt : (kind : Kind) → ℕ → Body kind → DB.Body
+abbrev pub bodyAt : (kind : Kind) → ℕ → BodyTree kind → DB.Body
 bodyAt Cds k (both l e) = Bo.Cds (record { loc = locationAt Cds k l; edit = muNaEditAt (k + length (printLocation Cds l)) e })
 bodyAt Genome k (both l e) = Bo.Genome (record { loc = locationAt Genome k l; edit = muNaEditAt (k + length (printLocation Genome l)) e })
 bodyAt Mt k (both l e) = Bo.Mt (record { loc = locationAt Mt k l; edit = muNaEditAt (k + length (printLocation Mt l)) e })
@@ -204,7 +204,7 @@ bodyAt Prot k b = Bo.Prot (proteinBodyAt k b)
 bodyAt Rna k (both l e) = Bo.Rna (record { loc = locationAt Rna k l; edit = muNaEditAt (k + length (printLocation Rna l)) e })
 
 -- ---- the header, and the whole
-abbrev pub headerAt : ℕ → Header → DH.Header
+abbrev pub headerAt : ℕ → HeaderTree → DH.Header
 headerAt k (header a gene) = record { accession = spanOf k (printAccession a); «gene_symbol» = partOf (k + length (printAccession a) + 1) gene }
 
 abbrev pub recordAt : ℕ → Text → HgvsVariant

@@ -10,14 +10,14 @@ use Rattle.texts.specs.Tests.{true-and}
 use Rattle.record.specs.declared.Part.{Part}
 use Rattle.record.specs.declared.Kind.{Kind}
 use Rattle.record.specs.declared.Kind.the-variants.{Cds, Genome, Mt, Tx, Prot, Rna}
-use Rattle.grammar.specs.Header.{Header, Header.header, printAccession, printGene, printHeader, printKind}
+use Rattle.grammar.specs.Header.{HeaderTree, HeaderTree.header, printAccession, printGene, printHeader, printKind}
 use Rattle.grammar.specs.Positions.{Residual, Residual.residual, printPosition}
 use Rattle.grammar.specs.Shapes.{Interval.one, Interval.two, Mu, Mu.certain, Mu.uncertain, Both.both, printMu}
-use Rattle.grammar.specs.NucleotideEdits.{NaEdit, NaEdit.equal, NaEdit.swap, NaEdit.delIns, NaEdit.delNumIns, NaEdit.delNum, NaEdit.del, NaEdit.ins, NaEdit.dup, NaEdit.invNum, NaEdit.inv, printNaEdit}
+use Rattle.grammar.specs.NucleotideEdits.{NaEditTree, NaEditTree.equal, NaEditTree.swap, NaEditTree.delIns, NaEditTree.delNumIns, NaEditTree.delNum, NaEditTree.del, NaEditTree.ins, NaEditTree.dup, NaEditTree.invNum, NaEditTree.inv, printNaEdit}
 use Rattle.grammar.specs.Optional.{printOptional}
 use Rattle.grammar.specs.ProteinEdits as P
-use Rattle.grammar.specs.ProteinEdits.{ProteinEdit, Stop, Stop.stop, ExtEnd, ExtEnd.nothing, ExtEnd.later, ExtEnd.earlier, printTerminal, printFsEnd, printExtEnd, printProteinEdit}
-use Rattle.grammar.specs.Bodies.{Location, printEnds, printLocation, ProteinBody, ProteinBody.met1, ProteinBody.bracketedMet1, ProteinBody.noProteinUncertain, ProteinBody.noProtein, ProteinBody.noChangeUncertain, ProteinBody.noChange, ProteinBody.unknown, ProteinBody.change, ProteinBody.bracketed, Body, printBody, printProteinBody}
+use Rattle.grammar.specs.ProteinEdits.{ProteinEditTree, Stop, Stop.stop, ExtEnd, ExtEnd.nothing, ExtEnd.later, ExtEnd.earlier, printTerminal, printFsEnd, printExtEnd, printProteinEdit}
+use Rattle.grammar.specs.Bodies.{LocationTree, printEnds, printLocation, ProteinBody, ProteinBody.met1, ProteinBody.bracketedMet1, ProteinBody.noProteinUncertain, ProteinBody.noProtein, ProteinBody.noChangeUncertain, ProteinBody.noChange, ProteinBody.unknown, ProteinBody.change, ProteinBody.bracketed, BodyTree, printBody, printProteinBody}
 use Rattle.grammar.specs.Texts.{Text, Text.text, print}
 use Rattle.grammar.specs.Spans.{inside, insideOptional}
 use Rattle.grammar.specs.Records.{span, partOf, protAt, locationAt, naEditAt, muNaEditAt, fsAt, extAt, proteinEditAt, muProteinEditAt, proteinBodyAt, bodyAt, recordAt}
@@ -32,7 +32,7 @@ module _ (s : List ℕ) where
   residue-inside : (k : ℕ) (p : Residual) → Stands s k (printPosition Prot p) → inside n (protAt k p .aa) ≡ true
   residue-inside k (residual r ds) h = stands-inside (left r _ h)
 
-  location-inside : (k : ℕ) (l : Location Prot) → Stands s k (printLocation Prot l) → protLocationInside n (locationAt Prot k l) ≡ true
+  location-inside : (k : ℕ) (l : LocationTree Prot) → Stands s k (printLocation Prot l) → protLocationInside n (locationAt Prot k l) ≡ true
   location-inside k (certain (one p)) h = true-and (residue-inside k p h) (residue-inside k p h)
   location-inside k (certain (two p q)) h =
       true-and (residue-inside k p (left (printPosition Prot p) _ h)) (residue-inside _ q (right (ascii "_") (right (printPosition Prot p) h)))
@@ -42,7 +42,7 @@ module _ (s : List ℕ) where
       (residue-inside _ q (right (ascii "_") (right (printPosition Prot p) (inner h))))
 
   -- ---- nucleotide edits
-  na-edit-inside : (k : ℕ) (e : NaEdit) → Stands s k (printNaEdit e) → naEditInside n (naEditAt k e) ≡ true
+  na-edit-inside : (k : ℕ) (e : NaEditTree) → Stands s k (printNaEdit e) → naEditInside n (naEditAt k e) ≡ true
   na-edit-inside k (equal seq) h = let f = stands-inside (left seq _ h) in true-and f f
   na-edit-inside k (swap a b) h =
       let f : inside n (span k 1) ≡ true = stands-inside (left (a ∷ []) _ h) in
@@ -58,7 +58,7 @@ module _ (s : List ℕ) where
   na-edit-inside k (invNum ds) h = refl
   na-edit-inside k (inv seq) h = stands-inside (right (ascii "inv") h)
 
-  mu-na-edit-inside : (k : ℕ) (e : Mu NaEdit) → Stands s k (printMu printNaEdit e) → muNaEditInside n (muNaEditAt k e) ≡ true
+  mu-na-edit-inside : (k : ℕ) (e : Mu NaEditTree) → Stands s k (printMu printNaEdit e) → muNaEditInside n (muNaEditAt k e) ≡ true
   mu-na-edit-inside k (certain e) h = na-edit-inside k e h
   mu-na-edit-inside k (uncertain e) h = na-edit-inside (k + 1) e (inner h)
 
@@ -76,20 +76,20 @@ module _ (s : List ℕ) where
   ext-inside r k (later (stop t m)) f h = true-and f (stands-inside (left (printTerminal t) _ (right (ascii "ext") h)))
   ext-inside r k (earlier q ds) f h = true-and f (optional-inside (k + 3) q (left (printOptional [] q) _ (right (ascii "ext") h)))
 
-  protein-edit-inside : (k : ℕ) (e : ProteinEdit) → Stands s k (printProteinEdit e) → proteinEditInside n (proteinEditAt k e) ≡ true
-  protein-edit-inside k (P.ProteinEdit.subst r) h = stands-inside h
-  protein-edit-inside k P.ProteinEdit.substUnknown h = stands-inside h
-  protein-edit-inside k P.ProteinEdit.equal h = refl
-  protein-edit-inside k P.ProteinEdit.del h = refl
-  protein-edit-inside k P.ProteinEdit.dup h = refl
-  protein-edit-inside k (P.ProteinEdit.ins rs) h = stands-inside (right (ascii "ins") h)
-  protein-edit-inside k (P.ProteinEdit.delIns rs) h = stands-inside (right (ascii "delins") h)
-  protein-edit-inside k (P.ProteinEdit.fs r e) h =
+  protein-edit-inside : (k : ℕ) (e : ProteinEditTree) → Stands s k (printProteinEdit e) → proteinEditInside n (proteinEditAt k e) ≡ true
+  protein-edit-inside k (P.ProteinEditTree.subst r) h = stands-inside h
+  protein-edit-inside k P.ProteinEditTree.substUnknown h = stands-inside h
+  protein-edit-inside k P.ProteinEditTree.equal h = refl
+  protein-edit-inside k P.ProteinEditTree.del h = refl
+  protein-edit-inside k P.ProteinEditTree.dup h = refl
+  protein-edit-inside k (P.ProteinEditTree.ins rs) h = stands-inside (right (ascii "ins") h)
+  protein-edit-inside k (P.ProteinEditTree.delIns rs) h = stands-inside (right (ascii "delins") h)
+  protein-edit-inside k (P.ProteinEditTree.fs r e) h =
       fs-inside (partOf k r) _ e (optional-inside k r (left (printOptional [] r) _ h)) (right (printOptional [] r) h)
-  protein-edit-inside k (P.ProteinEdit.ext r e) h =
+  protein-edit-inside k (P.ProteinEditTree.ext r e) h =
       ext-inside (partOf k r) _ e (optional-inside k r (left (printOptional [] r) _ h)) (right (printOptional [] r) h)
 
-  mu-protein-edit-inside : (k : ℕ) (e : Mu ProteinEdit) → Stands s k (printMu printProteinEdit e) → muProteinEditInside n (muProteinEditAt k e) ≡ true
+  mu-protein-edit-inside : (k : ℕ) (e : Mu ProteinEditTree) → Stands s k (printMu printProteinEdit e) → muProteinEditInside n (muProteinEditAt k e) ≡ true
   mu-protein-edit-inside k (certain e) h = protein-edit-inside k e h
   mu-protein-edit-inside k (uncertain e) h = protein-edit-inside (k + 1) e (inner h)
 
@@ -108,7 +108,7 @@ module _ (s : List ℕ) where
       true-and (location-inside (k + 1) (certain i) (left (printEnds Prot i) _ (inner h)))
       (protein-edit-inside (k + 1 + length (printEnds Prot i)) e (right (printEnds Prot i) (inner h)))
 
-  body-inside : (kind : Kind) (k : ℕ) (b : Body kind) → Stands s k (printBody kind b) → bodyInside n (bodyAt kind k b) ≡ true
+  body-inside : (kind : Kind) (k : ℕ) (b : BodyTree kind) → Stands s k (printBody kind b) → bodyInside n (bodyAt kind k b) ≡ true
   body-inside Cds k (both l e) h = mu-na-edit-inside _ e (right (printLocation Cds l) h)
   body-inside Genome k (both l e) h = mu-na-edit-inside _ e (right (printLocation Genome l) h)
   body-inside Mt k (both l e) h = mu-na-edit-inside _ e (right (printLocation Mt l) h)
@@ -123,7 +123,7 @@ module _ (s : List ℕ) where
 
   pub spans-inside : (k : ℕ) (t : Text) → Stands s k (print t) → spansInside n (recordAt k t) ≡ true
   spans-inside k (text (header a gene) kind b) h =
-      let head : Header = header a gene in
+      let head : HeaderTree = header a gene in
       let g : Stands s k (printHeader head) = left (printHeader head) _ h in
       true-and
       (true-and (stands-inside (left (printAccession a) _ g)) (gene-inside (k + length (printAccession a)) gene (right (printAccession a) g)))

@@ -4,12 +4,12 @@ use mathlib.Core.List.{List, _++_}
 use mathlib.Core.Bool.{Bool}
 use Rattle.alphabet.specs.Letters.{nucleotide}
 use Rattle.record.specs.declared.Kind.{Kind}
-use Rattle.grammar.specs.Header.{Header, printHeader, WfHeader, printKind}
-use Rattle.grammar.specs.Bodies.{Body, printBody, WfBody}
+use Rattle.grammar.specs.Header.{HeaderTree, printHeader, WfHeader, printKind}
+use Rattle.grammar.specs.Bodies.{BodyTree, printBody, WfBody}
 
 -- the header, the kind, then the body up to the end of the text
 pub data Text : Type 0 where
-  text : Header → (k : Kind) → Body k → Text
+  text : HeaderTree → (k : Kind) → BodyTree k → Text
 
 abbrev pub print : Text → List ℕ
 print (text h k b) = printHeader h ++ (printKind k ++ printBody k b)

@@ -19,12 +19,12 @@ use Rattle.residue.specs.Rows.{rows}
 use Rattle.residue.specs.Residues.{oneOf, isThree, isOne, isResidue, threes, isResidues}
 use Rattle.record.specs.declared.Kind.{Kind}
 use Rattle.record.specs.declared.Kind.the-variants.{Cds, Genome, Mt, Tx, Prot, Rna}
-use Rattle.grammar.specs.Header.{Accession.accession, Header, Header.header, WfHeader}
-use Rattle.grammar.specs.Positions.{Mark.bare, Mark.plus, Mark.minus, Mark.star, Offset.absent, Offset.ahead, Offset.back, Based.based, Genomic.known, Genomic.unknown, Residual.residual, Position, WfPosition}
+use Rattle.grammar.specs.Header.{Accession.accession, HeaderTree, HeaderTree.header, WfHeader}
+use Rattle.grammar.specs.Positions.{Mark.bare, Mark.plus, Mark.minus, Mark.star, OffsetTree.absent, OffsetTree.ahead, OffsetTree.back, Based.based, Genomic.known, Genomic.unknown, Residual.residual, PositionTree, WfPosition}
 use Rattle.grammar.specs.Shapes.{Interval.one, Mu.certain, Mu.uncertain, Both.both}
-use Rattle.grammar.specs.NucleotideEdits.{NaEdit, NaEdit.equal, NaEdit.swap, NaEdit.delIns, NaEdit.delNumIns, NaEdit.delNum, NaEdit.del, NaEdit.ins, NaEdit.dup, NaEdit.invNum, NaEdit.inv, WfNaEdit}
+use Rattle.grammar.specs.NucleotideEdits.{NaEditTree, NaEditTree.equal, NaEditTree.swap, NaEditTree.delIns, NaEditTree.delNumIns, NaEditTree.delNum, NaEditTree.del, NaEditTree.ins, NaEditTree.dup, NaEditTree.invNum, NaEditTree.inv, WfNaEdit}
 use Rattle.grammar.specs.ProteinEdits as P
-use Rattle.grammar.specs.ProteinEdits.{ProteinEdit, ProteinEdit.subst, ProteinEdit.substUnknown, ProteinEdit.fs, ProteinEdit.ext, Terminal.ter, Terminal.x, Length.counted, Length.unsaid, Stop.stop, ExtEnd.nothing, ExtEnd.later, ExtEnd.earlier, WfProteinEdit}
+use Rattle.grammar.specs.ProteinEdits.{ProteinEditTree, ProteinEditTree.subst, ProteinEditTree.substUnknown, ProteinEditTree.fs, ProteinEditTree.ext, Terminal.ter, Terminal.x, Length.counted, Length.unsaid, Stop.stop, ExtEnd.nothing, ExtEnd.later, ExtEnd.earlier, WfProteinEdit}
 use Rattle.grammar.specs.Bodies as B
 use Rattle.grammar.specs.Bodies.{Ends, ProteinBody, ProteinBody.met1, ProteinBody.bracketedMet1, ProteinBody.noProteinUncertain, ProteinBody.noProtein, ProteinBody.noChangeUncertain, ProteinBody.noChange, ProteinBody.change, ProteinBody.bracketed, WfProteinBody}
 
@@ -40,7 +40,7 @@ module _ {p : ℕ → Bool} {s : List ℕ} where
   not-some h e = clash (true-and (le-leb 1 (length s) (h .some)) (h .all)) e
 
 -- ---- nucleotide edits
-abbrev pub edits : List NaEdit
+abbrev pub edits : List NaEditTree
 edits =
     equal [] ∷
     equal (ascii "AC") ∷
@@ -65,7 +65,7 @@ edits-formed =
     (refl, (refl, ((refl, refl), ((refl, some-of refl), ((refl, some-of refl), ((some-of refl, some-of refl), (some-of refl, (refl, (refl, (some-of refl, (refl, (refl, (some-of refl, (refl, (refl, tt)))))))))))))))
 
 -- dup5, delAins, del12ins, ins; and letters that are none
-abbrev pub misformedEdits : List NaEdit
+abbrev pub misformedEdits : List NaEditTree
 misformedEdits =
     dup (ascii "5") ∷
     delIns (ascii "A") [] ∷
@@ -86,7 +86,7 @@ edits-misformed =
 
 -- ---- positions
 pub data Placed : Type 0 where
-  at : (k : Kind) → Position k → Placed
+  at : (k : Kind) → PositionTree k → Placed
 
 abbrev pub WfPlaced : Placed → Type 0
 WfPlaced (at k p) = WfPosition k p
@@ -129,7 +129,7 @@ positions-misformed =
     (λ w. w .0, (λ w. w .0, (λ w. not-some (w .0) refl, (λ w. not-some (w .1) refl, (λ w. not-some w refl, (λ w. clash (w .0) refl, (λ w. clash (w .0) refl, (λ w. not-some (w .1) refl, tt))))))))
 
 -- ---- headers
-abbrev pub headers : List Header
+abbrev pub headers : List HeaderTree
 headers =
     header (accession (code "N") (ascii "M") none none) none ∷
     header (accession (code "A") (ascii "B") (some (ascii "12")) (some (ascii "3"))) (some (ascii "4p")) ∷
@@ -140,7 +140,7 @@ unfolding every letter digit alphanumeric
 headers-formed = (((refl, some-of refl, tt, tt), tt), (((refl, some-of refl, some-of refl, some-of refl), some-of refl), tt))
 
 -- 1B, A, AB_, AB.x, AB()
-abbrev pub misformedHeaders : List Header
+abbrev pub misformedHeaders : List HeaderTree
 misformedHeaders =
     header (accession (code "1") (ascii "B") none none) none ∷
     header (accession (code "A") [] none none) none ∷
@@ -155,15 +155,15 @@ headers-misformed =
     (λ w. clash (w .0 .0) refl, (λ w. not-some (w .0 .1) refl, (λ w. not-some (w .0 .2) refl, (λ w. not-some (w .0 .3) refl, (λ w. not-some (w .1) refl, tt)))))
 
 -- ---- protein edits
-abbrev pub proteinEdits : List ProteinEdit
+abbrev pub proteinEdits : List ProteinEditTree
 proteinEdits =
     subst (ascii "*") ∷
     substUnknown ∷
-    P.ProteinEdit.equal ∷
-    P.ProteinEdit.del ∷
-    P.ProteinEdit.dup ∷
-    P.ProteinEdit.ins (ascii "ArgGly") ∷
-    P.ProteinEdit.delIns (ascii "RG") ∷
+    P.ProteinEditTree.equal ∷
+    P.ProteinEditTree.del ∷
+    P.ProteinEditTree.dup ∷
+    P.ProteinEditTree.ins (ascii "ArgGly") ∷
+    P.ProteinEditTree.delIns (ascii "RG") ∷
     fs none none ∷
     fs (some (ascii "Arg")) (some (stop ter (counted (ascii "5")))) ∷
     fs none (some (stop x unsaid)) ∷
@@ -179,15 +179,15 @@ protein-edits-formed =
     (refl, (tt, (tt, (tt, (tt, (refl, (refl, ((tt, tt), ((refl, some-of refl), ((tt, tt), ((tt, tt), ((tt, tt), ((refl, (refl, some-of refl)), ((tt, (tt, some-of refl)), tt))))))))))))))
 
 -- delinsArgG, insGArg, ins, fsTer with a letter for its digits, ext- without digits; and residues that are none
-abbrev pub misformedProteinEdits : List ProteinEdit
+abbrev pub misformedProteinEdits : List ProteinEditTree
 misformedProteinEdits =
     subst (ascii "arg") ∷
     fs (some (ascii "arg")) none ∷
     ext (some []) nothing ∷
     ext none (earlier (some (ascii "5")) (ascii "5")) ∷
-    P.ProteinEdit.delIns (ascii "ArgG") ∷
-    P.ProteinEdit.ins (ascii "GArg") ∷
-    P.ProteinEdit.ins [] ∷
+    P.ProteinEditTree.delIns (ascii "ArgG") ∷
+    P.ProteinEditTree.ins (ascii "GArg") ∷
+    P.ProteinEditTree.ins [] ∷
     fs none (some (stop ter (counted (ascii "A")))) ∷
     ext none (earlier none []) ∷
     []

@@ -9,9 +9,9 @@ use lib.ListN.{length}
 use Rattle.grammar.specs.Optional.{printOptional}
 use Rattle.grammar.specs.Header.{Accession, printAccession}
 use Rattle.lang.specs.Lang.{front-within, within}
-use Rattle.headers.specs.Optionals.{parseOptional, optional-front}
-use Rattle.headers.specs.Parse.{parseAccession}
-use Rattle.headers.specs.Sound.{accessionLang}
+use Rattle.lang_headers.specs.Optionals.{parseOptional, optional-front}
+use Rattle.lang_headers.specs.Parse.{parseAccession}
+use Rattle.lang_headers.specs.Sound.{accessionLang}
 
 -- 0 where nothing was found
 abbrev pub optionalLength : List ℕ → Option (List ℕ) → ℕ

@@ -3,8 +3,8 @@ use alphabet::Class;
 ghost use mathlib.Core.Path.{_≡_};
 ghost use Rattle.alphabet.specs.Cells.{IsTable};
 ghost use Rattle.alphabet.specs.Classes.{member};
-ghost use Rattle.headers.specs.Optionals.{parseOptional};
-ghost use Rattle.headers.specs.Parse.{parseAccession};
+ghost use Rattle.lang_headers.specs.Optionals.{parseOptional};
+ghost use Rattle.lang_headers.specs.Parse.{parseAccession};
 ghost use Rattle.header_lengths.specs.Lengths.{optionalLength, accessionLength};
 
 // The bytes of a word with one or more bytes of a class behind it; 0 where they are not there.

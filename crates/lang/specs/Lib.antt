@@ -1,5 +1,5 @@
 pub mod Choice
-pub mod Answer
+pub mod ByParsed
 pub mod Lang
 pub mod Whole
 pub mod MuLang

@@ -6,11 +6,11 @@ use Rattle.record.specs.declared.HgvsVariant.{HgvsVariant}
 use Rattle.grammar.specs.Texts.{Text, print, allLetters}
 use Rattle.grammar.specs.Contents.{content}
 use Rattle.promise.specs.Outcome.{Outcome, Outcome.given, Outcome.refused}
-use Rattle.bodies.specs.Outcomes.{textOutcome}
-use Rattle.canon.specs.TextCanon.{canonText}
-use Rattle.na_edits.specs.Alphabet.{alphabets}
+use Rattle.lang_bodies.specs.Outcomes.{textOutcome}
+use Rattle.lang_canon.specs.TextCanon.{canonText}
+use Rattle.lang_na_edits.specs.Alphabet.{alphabets}
 use Rattle.lines.specs.Lines.{Held, Held.whole, Held.tooLong}
-use Rattle.line_promise.specs.Answer.{refusal}
+use Rattle.line_promise.specs.LineAnswers.{refusal}
 
 -- a text that was read has a shortest text, so that 5 is never answered
 abbrev pub ofCanon : Option Text → List ℕ

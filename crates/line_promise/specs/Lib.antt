@@ -1,4 +1,4 @@
-pub mod Answer
+pub mod LineAnswers
 pub mod Computed
-pub mod Laws
+pub mod OneLineAnswer
 pub mod Output

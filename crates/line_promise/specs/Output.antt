@@ -8,12 +8,12 @@ use borrow.Author.Tests.{le-leb}
 use Rattle.promise.specs.Outcome.{limit}
 use Rattle.lines.specs.Lines.{lineEnd, linesOf, Held, held, output}
 use Rattle.lines.specs.Taking.{noLine}
-use Rattle.lines.specs.Feeding.{written, Writes}
+use Rattle.lines.specs.Feeding.{written, WritesLines}
 use Rattle.lines.specs.Cuts.{writes-some, written-anyhow, writes-anyhow}
 use Rattle.lines.specs.Steps.{roomFor}
-use Rattle.line_promise.specs.Answer.{AllAnswered, AllAnswered.nothing, AllAnswered.next}
+use Rattle.line_promise.specs.LineAnswers.{AllAnswered, AllAnswered.nothing, AllAnswered.next}
 use Rattle.line_promise.specs.Computed.{lineAnswer}
-use Rattle.line_promise.specs.Laws.{answers-only, line-answers, answer-short}
+use Rattle.line_promise.specs.OneLineAnswer.{answers-only, line-answers, answer-short}
 
 -- with a line buffer of 4,096 bytes
 abbrev pub programOutput : List ℕ → List ℕ
@@ -54,11 +54,11 @@ module _ (input : List ℕ) where
 
 -- ---- a program that reads pieces of the input, steps over them while it has room for an answer more, and writes
 module _ (room : ℕ) (buffer : List ℕ) (holds : length buffer ≡ limit) (pieces : List (List ℕ)) where
-  pub writes-output : {t : List ℕ} → Writes lineAnswer (roomFor mostBytes room) buffer noLine pieces t → t ≡ programOutput (flatten pieces)
+  pub writes-output : {t : List ℕ} → WritesLines lineAnswer (roomFor mostBytes room) buffer noLine pieces t → t ≡ programOutput (flatten pieces)
   writes-output w = rw holds at (writes-anyhow lineAnswer w)
 
   -- it comes to the end of every input
-  pub output-written : mostBytes ≤ room → Writes lineAnswer (roomFor mostBytes room) buffer noLine pieces (programOutput (flatten pieces))
+  pub output-written : mostBytes ≤ room → WritesLines lineAnswer (roomFor mostBytes room) buffer noLine pieces (programOutput (flatten pieces))
   output-written h =
       let e : written lineAnswer buffer noLine pieces ≡ programOutput (flatten pieces) = rw holds at (written-anyhow lineAnswer buffer pieces) in
       rw e at (writes-some lineAnswer (roomFor mostBytes room) (le-leb (0 + mostBytes) room h) buffer noLine pieces)

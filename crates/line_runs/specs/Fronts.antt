@@ -17,7 +17,7 @@ use Rattle.promise.specs.Outcome.{limit}
 use Rattle.lines.specs.declared.Line.{Line}
 use Rattle.lines.specs.declared.Progress.{Progress}
 use Rattle.lines.specs.Taking.{noLine}
-use Rattle.lines.specs.Feeding.{stepOn, written, Writes, Writes.ends, Writes.reads, Writes.steps}
+use Rattle.lines.specs.Feeding.{stepOn, written, WritesLines, WritesLines.ends, WritesLines.reads, WritesLines.steps}
 use Rattle.lines.specs.Cuts.{writes-some}
 use Rattle.lines.specs.Steps.{roomFor, Stepped}
 use Rattle.line_promise.specs.Computed.{lineAnswer}
@@ -42,7 +42,7 @@ none-left piece used input h =
     drop-of-length-le (take piece input) within
 
 abbrev Goes : ℕ → List ℕ → Line → List (List ℕ) → List ℕ → Type 0
-Goes room = Writes lineAnswer (roomFor mostBytes room)
+Goes room = WritesLines lineAnswer (roomFor mostBytes room)
 
 goes-some : (room : ℕ) → mostBytes ≤ room → (buffer : List ℕ) (line : Line) (pieces : List (List ℕ)) → Goes room buffer line pieces (written lineAnswer buffer line pieces)
 goes-some room h = writes-some lineAnswer (roomFor mostBytes room) (le-leb (0 + mostBytes) room h)
@@ -67,14 +67,14 @@ module _ (buffer₀ : List ℕ) where
       → Before (length out) buffer line (λ more. drop used (take piece input) ∷ more) pieces taken → Owes (goOn piece used line) input buffer out pieces taken
   unfolding Owes
   piece-owes input buffer out pieces taken piece used line h f =
-      goes-on (λ r. Owes r input buffer out pieces taken) piece used line (λ k. (h, λ more t g. f more t (rw (none-left piece used input k) (Writes.reads g)))) (λ k. (h, f))
+      goes-on (λ r. Owes r input buffer out pieces taken) piece used line (λ k. (h, λ more t g. f more t (rw (none-left piece used input k) (WritesLines.reads g)))) (λ k. (h, f))
 
   module _ (input buffer out : List ℕ) (pieces : List (List ℕ)) (taken : List ℕ) where
     read-owes : (got : ℤ) (line : Line) → mostBytes ≤ length out → Before (length out) buffer line (λ more. more) pieces taken
         → Owes (afterRead got (length input) line) input buffer out (pieces ++ (pieceOf got input ∷ [])) taken
     unfolding Owes afterRead pieceOf
-    read-owes (negsuc k) line h f = (length out, lastAnswer buffer line, f ([] ∷ []) (lastAnswer buffer line) (Writes.reads ends))
-    read-owes (pos zero) line h f = (length out, rw (zero-min (length input)) (f ([] ∷ []) (lastAnswer buffer line) (Writes.reads ends)))
+    read-owes (negsuc k) line h f = (length out, lastAnswer buffer line, f ([] ∷ []) (lastAnswer buffer line) (WritesLines.reads ends))
+    read-owes (pos zero) line h f = (length out, rw (zero-min (length input)) (f ([] ∷ []) (lastAnswer buffer line) (WritesLines.reads ends)))
     read-owes (pos (suc k)) line h f =
         piece-owes input buffer out (pieces ++ (pieceOf (pos (suc k)) input ∷ [])) taken (clamped (pos (suc k)) (length input)) 0 line h
         (λ more t g. rw (append-snoc pieces (pieceOf (pos (suc k)) input) more) (f (pieceOf (pos (suc k)) input ∷ more) t g))
@@ -89,7 +89,7 @@ module _ (buffer₀ : List ℕ) where
           omega (arith, st .same-out, f .0),
           λ more t g.
               rw (made, st .same-out, append-assoc taken (step .0 .made) t)
-              (f .1 more (step .0 .made ++ t) (Writes.steps buffer (rest .line) (leftOf rest input) (rw (left, st .same-out, st .buffer-is, st .line-is) at g))),
+              (f .1 more (step .0 .made ++ t) (WritesLines.steps buffer (rest .line) (leftOf rest input) (rw (left, st .same-out, st .buffer-is, st .line-is) at g))),
         )
 
     write-owes : (w : Waiting) (done : Bool) (n : ℕ) → Took done (w .at) n → Owes (Write w) input buffer out pieces taken

@@ -22,7 +22,7 @@ fn put_line(buffer: &[u8], line: Line, out: &mut [u8], at: usize) -> usize
     ensures { λ r. ⌜ (r ≡ at + length (lineAnswer (heldIn (now (buffer .entry)) line) ++ (lineEnd ∷ []))) × (now (out .exit) ≡ put (now (out .entry)) at (lineAnswer (heldIn (now (buffer .entry)) line) ++ (lineEnd ∷ []))) ⌝ }
 {
     let len = line.len;
-    canonical_line::answer(&buffer[..len], line.long, out, at)
+    line_answer::answer(&buffer[..len], line.long, out, at)
 }
 
 // One line of the piece, or as much of one as there is.

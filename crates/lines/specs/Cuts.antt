@@ -14,8 +14,8 @@ use Rattle.texts.specs.Runs.{every, run, front, every-append, one-every, front-
 use Rattle.lines.specs.declared.Line.{Line}
 use Rattle.lines.specs.Lines.{lineEnd, linesOf, Held, held, handled, output}
 use Rattle.lines.specs.Taking.{inLine, noLine, begun, heldIn, ended, used, taken, stored}
-use Rattle.lines.specs.Feeding.{Going, settled, turn, turns, finished, fed, runOver, writes, clear, written, stepOn, Writes, Writes.ends, Writes.reads, Writes.steps}
-use Rattle.lines.specs.Laws.{lines-none, lines-end, lines-last, Holds, holds-none, begun-some, stored-length, holds-more}
+use Rattle.lines.specs.Feeding.{Going, settled, turn, turns, finished, fed, runOver, writes, clear, written, stepOn, WritesLines, WritesLines.ends, WritesLines.reads, WritesLines.steps}
+use Rattle.lines.specs.HeldLines.{lines-none, lines-end, lines-last, Holds, holds-none, begun-some, stored-length, holds-more}
 use Rattle.lines.specs.Turns.{less-left, through-less, through-rest}
 
 -- the byte behind the bytes of a line is LF
@@ -180,7 +180,7 @@ module _ (answer : Held → List ℕ) where
       (ap (λ (x : Going (List ℕ)). x .made ++ written answer (x .buffer) (x .line) pieces) q
       ∙ append-assoc (h .made) (g .made) (written answer (g .buffer) (g .line) pieces))
 
-  writes-written : {ready : List ℕ → Bool} {buffer : List ℕ} {line : Line} {pieces : List (List ℕ)} {t : List ℕ} → Writes answer ready buffer line pieces t → t ≡ written answer buffer line pieces
+  writes-written : {ready : List ℕ → Bool} {buffer : List ℕ} {line : Line} {pieces : List (List ℕ)} {t : List ℕ} → WritesLines answer ready buffer line pieces t → t ≡ written answer buffer line pieces
   unfolding written turns
   writes-written ends = refl
   writes-written (reads w) = writes-written w
@@ -188,8 +188,8 @@ module _ (answer : Held → List ℕ) where
       ap (λ (x : List ℕ). stepOn answer ready buffer line piece .0 .made ++ x) (writes-written w) ∙ written-rest ready buffer line piece pieces
 
   -- where it is ready with nothing waiting to be written, it comes to the end of every input
-  steps-through : (ready : List ℕ → Bool) → ready [] ≡ true → (pieces : List (List ℕ)) → ((buffer : List ℕ) (line : Line) → Writes answer ready buffer line pieces (written answer buffer line pieces))
-      → (most : ℕ) (buffer : List ℕ) (line : Line) (piece : List ℕ) → length piece ≤ most → Writes answer ready buffer line (piece ∷ pieces) (written answer buffer line (piece ∷ pieces))
+  steps-through : (ready : List ℕ → Bool) → ready [] ≡ true → (pieces : List (List ℕ)) → ((buffer : List ℕ) (line : Line) → WritesLines answer ready buffer line pieces (written answer buffer line pieces))
+      → (most : ℕ) (buffer : List ℕ) (line : Line) (piece : List ℕ) → length piece ≤ most → WritesLines answer ready buffer line (piece ∷ pieces) (written answer buffer line (piece ∷ pieces))
   unfolding written turns
   steps-through ready e pieces others zero buffer line [] h = reads (others buffer line)
   steps-through ready e pieces others zero buffer line (b ∷ s) h = absurd (omega arith)
@@ -199,7 +199,7 @@ module _ (answer : Held → List ℕ) where
       rw (written-rest ready buffer line (b ∷ s) pieces) at
       (steps buffer line (b ∷ s) (steps-through ready e pieces others most (g .buffer) (g .line) (stepOn answer ready buffer line (b ∷ s) .1) (omega (arith, through-less (writes answer) ready (clear buffer line) (b ∷ s) (omega arith) e))))
 
-  pub writes-some : (ready : List ℕ → Bool) → ready [] ≡ true → (buffer : List ℕ) (line : Line) (pieces : List (List ℕ)) → Writes answer ready buffer line pieces (written answer buffer line pieces)
+  pub writes-some : (ready : List ℕ → Bool) → ready [] ≡ true → (buffer : List ℕ) (line : Line) (pieces : List (List ℕ)) → WritesLines answer ready buffer line pieces (written answer buffer line pieces)
   unfolding written
   writes-some ready e buffer line [] = ends
   writes-some ready e buffer line (piece ∷ pieces) = steps-through ready e pieces (λ b l. writes-some ready e b l pieces) (length piece) buffer line piece (omega arith)
@@ -219,5 +219,5 @@ module _ (answer : Held → List ℕ) where
       ∙ cut-anyhow (writes answer) buffer [] pieces
       ∙ writes-all (length buffer) [] (linesOf (flatten pieces))
 
-  pub writes-anyhow : {ready : List ℕ → Bool} {buffer : List ℕ} {pieces : List (List ℕ)} {t : List ℕ} → Writes answer ready buffer noLine pieces t → t ≡ output answer (length buffer) (flatten pieces)
+  pub writes-anyhow : {ready : List ℕ → Bool} {buffer : List ℕ} {pieces : List (List ℕ)} {t : List ℕ} → WritesLines answer ready buffer noLine pieces t → t ≡ output answer (length buffer) (flatten pieces)
   writes-anyhow {buffer} {pieces} w = writes-written w ∙ written-anyhow buffer pieces

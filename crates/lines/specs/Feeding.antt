@@ -77,9 +77,9 @@ module _ (answer : Held → List ℕ) where
   stepOn ready buffer line piece = through writes ready (clear buffer line) piece
 
   -- it writes t for the pieces that are left, the first of which may be what a step has left
-  pub data Writes (ready : List ℕ → Bool) : List ℕ → Line → List (List ℕ) → List ℕ → Type 0 where
-    ends : {buffer : List ℕ} {line : Line} → Writes ready buffer line [] (finished writes (clear buffer line))
-    reads : {buffer : List ℕ} {line : Line} {pieces : List (List ℕ)} {t : List ℕ} → Writes ready buffer line pieces t → Writes ready buffer line ([] ∷ pieces) t
+  pub data WritesLines (ready : List ℕ → Bool) : List ℕ → Line → List (List ℕ) → List ℕ → Type 0 where
+    ends : {buffer : List ℕ} {line : Line} → WritesLines ready buffer line [] (finished writes (clear buffer line))
+    reads : {buffer : List ℕ} {line : Line} {pieces : List (List ℕ)} {t : List ℕ} → WritesLines ready buffer line pieces t → WritesLines ready buffer line ([] ∷ pieces) t
     steps : (buffer : List ℕ) (line : Line) (piece : List ℕ) {pieces : List (List ℕ)} {t : List ℕ}
-        → Writes ready (stepOn ready buffer line piece .0 .buffer) (stepOn ready buffer line piece .0 .line) (stepOn ready buffer line piece .1 ∷ pieces) t
-        → Writes ready buffer line (piece ∷ pieces) (stepOn ready buffer line piece .0 .made ++ t)
+        → WritesLines ready (stepOn ready buffer line piece .0 .buffer) (stepOn ready buffer line piece .0 .line) (stepOn ready buffer line piece .1 ∷ pieces) t
+        → WritesLines ready buffer line (piece ∷ pieces) (stepOn ready buffer line piece .0 .made ++ t)

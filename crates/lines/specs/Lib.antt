@@ -1,7 +1,7 @@
 pub mod Lines
 pub mod Taking
 pub mod Feeding
-pub mod Laws
+pub mod HeldLines
 pub mod Turns
 pub mod Cuts
 pub mod Steps

@@ -16,7 +16,7 @@ use Rattle.lines.specs.declared.Progress.{Progress}
 use Rattle.lines.specs.Lines.{lineEnd, Held}
 use Rattle.lines.specs.Taking.{noLine, heldIn, ended, used, longer, taken, stored}
 use Rattle.lines.specs.Feeding.{Going, lineAfter, turn, turns, through, fed, writes, clear, said, stepOn}
-use Rattle.lines.specs.Laws.{used-le, used-some, stored-length, longer-within}
+use Rattle.lines.specs.HeldLines.{used-le, used-some, stored-length, longer-within}
 use Rattle.lines.specs.Turns.{turn-open, turn-ended, through-none, through-wait, through-turn, through-less, through-rest}
 use Rattle.lines.specs.Cuts.{fed-behind}
 

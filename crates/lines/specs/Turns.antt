@@ -8,7 +8,7 @@ use lib.ListN.{length, drop, length-drop}
 use Rattle.lines.specs.Lines.{Held}
 use Rattle.lines.specs.Taking.{noLine, heldIn, ended, used, longer, taken, stored}
 use Rattle.lines.specs.Feeding.{Going, turn, turns, through, fed}
-use Rattle.lines.specs.Laws.{used-some}
+use Rattle.lines.specs.HeldLines.{used-some}
 
 -- a byte is used, so that less is left
 pub less-left : (b : ℕ) (s : List ℕ) → length (drop (used (b ∷ s)) (b ∷ s)) ≤ length s

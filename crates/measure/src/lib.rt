@@ -1,5 +1,5 @@
 // Measuring a record: how many bases or residues its location spans.
-use body_width::BodyWidth;
+use measure_body::BodyWidth;
 use plan_text::TextPlan;
 use record::HgvsVariant;
 use record::Refusal;
@@ -23,7 +23,7 @@ pub fn width(source: &[u8], v: HgvsVariant) -> WidthAnswer
         return WidthAnswer::Refused(Refusal::NoText);
     };
     let body = v.body;
-    match body_width::body_width(body) {
+    match measure_body::body_width(body) {
         BodyWidth::NoWidth => WidthAnswer::Refused(Refusal::NoWidth),
         BodyWidth::Width(n) => WidthAnswer::Width(n),
     }

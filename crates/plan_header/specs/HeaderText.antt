@@ -10,13 +10,13 @@ use Rattle.texts.specs.Runs.{every}
 use Rattle.alphabet.specs.Letters.{alphanumeric}
 use Rattle.record.specs.declared.Header as Declared
 use Rattle.grammar.specs.Spans.{part, optionalPart}
-use Rattle.grammar.specs.Header.{Accession, Header.header, printGene, printHeader}
+use Rattle.grammar.specs.Header.{Accession, HeaderTree.header, printGene, printHeader}
 use Rattle.grammar.specs.Contents.{headerContent}
 use Rattle.grammar.specs.Values.{HeaderV.headerV}
 use Rattle.lang.specs.Whole.{whole, whole-sound}
 use Rattle.lang.specs.Canon.{mapO}
-use Rattle.headers.specs.Sound.{accessionLang}
-use Rattle.headers.specs.Canonical.{isGene, canonHeader}
+use Rattle.lang_headers.specs.Sound.{accessionLang}
+use Rattle.lang_headers.specs.Canonical.{isGene, canonHeader}
 
 abbrev pub isSome : {A : Type 0} → Option A → Bool
 isSome none = false

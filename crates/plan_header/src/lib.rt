@@ -7,8 +7,8 @@ ghost use Rattle.alphabet.specs.Cells.{IsTable};
 ghost use Rattle.grammar.specs.Spans.{optionalPart};
 ghost use Rattle.grammar.specs.Contents.{headerContent};
 ghost use Rattle.lang.specs.Whole.{whole};
-ghost use Rattle.headers.specs.Sound.{accessionLang};
-ghost use Rattle.headers.specs.Canonical.{isGene, canonHeader};
+ghost use Rattle.lang_headers.specs.Sound.{accessionLang};
+ghost use Rattle.lang_headers.specs.Canonical.{isGene, canonHeader};
 ghost use Rattle.plan_header.specs.HeaderText.{isSome, isName};
 
 // Is the whole text an accession?

@@ -8,11 +8,11 @@ use mathlib.Core.Bool.{Bool, true, false, cond, _&&_}
 use lib.IntN.{ℤ, pos, negsuc, natAbs}
 use Rattle.texts.specs.Ascii.{ascii}
 use Rattle.texts.specs.Tests.{none-some}
-use Rattle.number.specs.declared.Sign.{Sign}
-use Rattle.number.specs.declared.Sign.the-variants.{Plain, Minus}
-use Rattle.number.specs.Digits.{dec}
-use Rattle.number.specs.Reading.{fits}
-use Rattle.number.specs.Signs.{writtenSign}
+use Rattle.numerals.specs.declared.Sign.{Sign}
+use Rattle.numerals.specs.declared.Sign.the-variants.{Plain, Minus}
+use Rattle.numerals.specs.Digits.{dec}
+use Rattle.numerals.specs.Reading.{fits}
+use Rattle.numerals.specs.Signs.{writtenSign}
 use Rattle.residue.specs.Residues.{isResidue}
 use Rattle.record.specs.declared.Span.{Span}
 use Rattle.record.specs.declared.Kind.{Kind}
@@ -24,7 +24,7 @@ use Rattle.record.specs.declared.CdsFrom.the-variants.{Start, End}
 use Rattle.record.specs.declared.GenomePos.the-variants as Genomes
 use Rattle.record.specs.declared.MtPos.the-variants as Mts
 use Rattle.grammar.specs.Positions as G
-use Rattle.grammar.specs.Positions.{Mark.bare, Mark.minus, Mark.star, Offset, Genomic.known, Residual.residual, printMark, printOffset, printBased, printGenomic, printResidual, printPosition}
+use Rattle.grammar.specs.Positions.{Mark.bare, Mark.minus, Mark.star, OffsetTree, Genomic.known, Residual.residual, printMark, printOffset, printBased, printGenomic, printResidual, printPosition}
 use Rattle.grammar.specs.Shapes.{Interval, Interval.one, Interval.two, Mu, Mu.certain, Mu.uncertain, Both.both, printInterval, printMu}
 use Rattle.grammar.specs.Bodies.{printLocation}
 use Rattle.grammar.specs.Spans.{part}
@@ -32,72 +32,72 @@ use Rattle.grammar.specs.Values.{ProtPosV.protPosV, PositionV}
 use Rattle.grammar.specs.Records.{PositionR, MuIntervalR}
 use Rattle.grammar.specs.Contents.{positionContent, locationContent}
 use Rattle.lang.specs.Canon.{mapO, bothO}
-use Rattle.location.specs.Equal.{eqPosition}
-use Rattle.number.specs.Written.{digitsOf, unsignedDigits}
-use Rattle.location.specs.Canon.{canonOffset, marked, canonBased, canonGenomic, canonPosition}
-use Rattle.location.specs.Canonical.{locationCanon}
+use Rattle.lang_locations.specs.Equal.{eqPosition}
+use Rattle.numerals.specs.Written.{digitsOf, unsignedDigits}
+use Rattle.lang_locations.specs.Canon.{canonOffset, marked, canonBased, canonGenomic, canonPosition}
+use Rattle.lang_locations.specs.Canonical.{locationCanon}
 use Rattle.any_location.specs.declared.Position.{Position}
 use Rattle.any_location.specs.declared.Location.{Location}
 use Rattle.any_location.specs.OfRecord.{anyLocation}
 use Rattle.any_location.specs.ToRecord.{positionFor, muFor, locationFor, any-location}
 use Rattle.any_location_same.specs.Same.{samePosition}
-use Rattle.emit_piece.specs.Texts.{markText, amountText, noSpan}
-use Rattle.emit_place.specs.Texts.{endText, placeText, noEnd}
-use Rattle.emit_piece.specs.Laws.{no-part}
-use Rattle.emit_place.specs.Laws.{no-end}
-use Rattle.emit_piece.specs.declared.Mark as Emit
-use Rattle.emit_piece.specs.declared.Mark.the-variants.{Nothing, Byte}
-use Rattle.plan_location.specs.declared.EndPlan.{EndPlan}
-use Rattle.plan_location.specs.declared.EndPlan.the-variants as Ends
-use Rattle.plan_location.specs.declared.PlacePlan.{PlacePlan}
-use Rattle.plan_location.specs.declared.PlacePlan.the-variants as Places
+use Rattle.emit_piece.specs.Texts.{byteText, amountText, noSpan}
+use Rattle.emit_location.specs.Texts.{positionText, locationText, noEnd}
+use Rattle.emit_piece.specs.PartLengths.{no-part}
+use Rattle.emit_location.specs.LocationLengths.{no-end}
+use Rattle.emit_piece.specs.declared.OneByte as Emit
+use Rattle.emit_piece.specs.declared.OneByte.the-variants.{Nothing, Byte}
+use Rattle.plan_location.specs.declared.PositionPlan.{PositionPlan}
+use Rattle.plan_location.specs.declared.PositionPlan.the-variants as Ends
+use Rattle.plan_location.specs.declared.LocationPlan.{LocationPlan}
+use Rattle.plan_location.specs.declared.LocationPlan.the-variants as Places
 use Rattle.plan_location.specs.Plan.{held, heldOffset, offsetSign, offsetAmount, endPlan, unsignedPlan, basedPlan, unknownEnd, genomicPlan, residualPlan, positionPlan, bracketMark, placePlan, planLocation}
 
 module _ (s : List ℕ) where
-  abbrev pub endPlanText : EndPlan → Option (List ℕ)
+  abbrev pub endPlanText : PositionPlan → Option (List ℕ)
   endPlanText Ends.NoText = none
-  endPlanText (Ends.Text e) = some (endText s e)
+  endPlanText (Ends.Text e) = some (positionText s e)
 
-  abbrev pub planText : PlacePlan → Option (List ℕ)
+  abbrev pub planText : LocationPlan → Option (List ℕ)
   planText Places.NoText = none
-  planText (Places.Text p) = some (placeText s p)
+  planText (Places.Text p) = some (locationText s p)
 
 -- ---- offsets
 abbrev offsetText : Declared.Offset → List ℕ
-offsetText o = markText (offsetSign o) ++ amountText (offsetAmount o)
+offsetText o = byteText (offsetSign o) ++ amountText (offsetAmount o)
 
 -- the text of what canon gives, behind a text x
-offset-canon : (x : List ℕ) (o : Declared.Offset) → mapO (λ (t : Offset). x ++ printOffset t) (canonOffset o) ≡ cond (heldOffset o) (some (x ++ offsetText o)) none
+offset-canon : (x : List ℕ) (o : Declared.Offset) → mapO (λ (t : OffsetTree). x ++ printOffset t) (canonOffset o) ≡ cond (heldOffset o) (some (x ++ offsetText o)) none
 unfolding held writtenSign
 offset-canon x Absent = refl
 offset-canon x (By (pos v)) = go (fits Plain v) refl
   where
-    go : (t : Bool) → fits Plain v ≡ t → mapO (λ (o : Offset). x ++ printOffset o) (canonOffset (By (pos v))) ≡ cond (heldOffset (By (pos v))) (some (x ++ offsetText (By (pos v)))) none
+    go : (t : Bool) → fits Plain v ≡ t → mapO (λ (o : OffsetTree). x ++ printOffset o) (canonOffset (By (pos v))) ≡ cond (heldOffset (By (pos v))) (some (x ++ offsetText (By (pos v)))) none
     go true e = rw e
     go false e = rw e
 offset-canon x (By (negsuc v)) = go (fits Minus (suc v)) refl
   where
-    go : (t : Bool) → fits Minus (suc v) ≡ t → mapO (λ (o : Offset). x ++ printOffset o) (canonOffset (By (negsuc v))) ≡ cond (heldOffset (By (negsuc v))) (some (x ++ offsetText (By (negsuc v)))) none
+    go : (t : Bool) → fits Minus (suc v) ≡ t → mapO (λ (o : OffsetTree). x ++ printOffset o) (canonOffset (By (negsuc v))) ≡ cond (heldOffset (By (negsuc v))) (some (x ++ offsetText (By (negsuc v)))) none
     go true e = rw e
     go false e = rw e
 
 -- ---- positions: r is nothing where there is no residue
 module _ (s : List ℕ) where
-  end-text : (r : Span) (m : Emit.Mark) (z : ℤ) (o : Declared.Offset)
-      → endPlanText s (endPlan r m z o) ≡ cond (held z && heldOffset o) (some (part s r ++ (markText m ++ (dec (natAbs z) ++ offsetText o)))) none
-  unfolding endPlan endText
+  end-text : (r : Span) (m : Emit.OneByte) (z : ℤ) (o : Declared.Offset)
+      → endPlanText s (endPlan r m z o) ≡ cond (held z && heldOffset o) (some (part s r ++ (byteText m ++ (dec (natAbs z) ++ offsetText o)))) none
+  unfolding endPlan positionText
   end-text r m z o = go (held z && heldOffset o) refl
     where
-      go : (t : Bool) → held z && heldOffset o ≡ t → endPlanText s (endPlan r m z o) ≡ cond (held z && heldOffset o) (some (part s r ++ (markText m ++ (dec (natAbs z) ++ offsetText o)))) none
+      go : (t : Bool) → held z && heldOffset o ≡ t → endPlanText s (endPlan r m z o) ≡ cond (held z && heldOffset o) (some (part s r ++ (byteText m ++ (dec (natAbs z) ++ offsetText o)))) none
       go true e = rw (e, endPlan)
       go false e = rw (e, endPlan)
 
   -- a mark, digits, an offset
-  based-text : (m : G.Mark) (e : Emit.Mark) → printMark m ≡ markText e → (sign : Sign) (z : ℤ) → held z ≡ fits sign (natAbs z) → (o : Declared.Offset)
+  based-text : (m : G.Mark) (e : Emit.OneByte) → printMark m ≡ byteText e → (sign : Sign) (z : ℤ) → held z ≡ fits sign (natAbs z) → (o : Declared.Offset)
       → endPlanText s (endPlan noSpan e z o) ≡ mapO printBased (bothO (λ base offset. base offset) (mapO (marked m) (digitsOf sign (natAbs z))) (canonOffset o))
   based-text m e p sign z h o = end-text noSpan e z o ∙ rw (no-part s, h, ← p) (go (fits sign (natAbs z)) refl)
     where
-      joined : (c : Option Offset) → mapO printBased (mapO (marked m (dec (natAbs z))) c) ≡ mapO (λ (t : Offset). (printMark m ++ dec (natAbs z)) ++ printOffset t) c
+      joined : (c : Option OffsetTree) → mapO printBased (mapO (marked m (dec (natAbs z))) c) ≡ mapO (λ (t : OffsetTree). (printMark m ++ dec (natAbs z)) ++ printOffset t) c
       joined none = refl
       joined (some t) = ap some (sym (append-assoc (printMark m) (dec (natAbs z)) (printOffset t)))
 
@@ -133,7 +133,7 @@ module _ (s : List ℕ) where
   known-text = unsigned-text known printGenomic noSpan (λ ds. rw (no-part s))
 
   unknown-text : endPlanText s (Ends.Text unknownEnd) ≡ some (ascii "?")
-  unfolding endText
+  unfolding positionText
   unknown-text = rw (no-part s)
 
   residual-text : (aa : Span) (z : ℤ) → endPlanText s (residualPlan s aa z) ≡ mapO (printPosition Prot) (canonPosition Prot (protPosV (part s aa) z))
@@ -168,20 +168,20 @@ module _ (s : List ℕ) {A : Type 0} (print : A → List ℕ) (isCertain : Bool)
   abbrev canonText : Option (Interval A) → Option (List ℕ)
   canonText o = mapO (printMu (printInterval print)) (mapO (muOf isCertain) o)
 
-  one-text : (x : EndPlan) (o : Option A) → endPlanText s x ≡ mapO print o → planText s (placePlan isCertain x Nothing (Ends.Text noEnd)) ≡ canonText (mapO one o)
-  unfolding placeText
+  one-text : (x : PositionPlan) (o : Option A) → endPlanText s x ≡ mapO print o → planText s (placePlan isCertain x Nothing (Ends.Text noEnd)) ≡ canonText (mapO one o)
+  unfolding locationText
   one-text Ends.NoText none e = refl
   one-text Ends.NoText (some a) e = absurd (none-some e)
   one-text (Ends.Text x) none e = absurd (none-some (sym e))
-  one-text (Ends.Text x) (some a) e = let j : endText s x ≡ print a = cc in rw (no-end s, j) (ap some (go isCertain))
+  one-text (Ends.Text x) (some a) e = let j : positionText s x ≡ print a = cc in rw (no-end s, j) (ap some (go isCertain))
     where
-      go : (t : Bool) → markText (bracketMark t (code "(")) ++ (print a ++ markText (bracketMark t (code ")"))) ≡ printMu (printInterval print) (muOf t (one a))
+      go : (t : Bool) → byteText (bracketMark t (code "(")) ++ (print a ++ byteText (bracketMark t (code ")"))) ≡ printMu (printInterval print) (muOf t (one a))
       go true = append-nil (print a)
       go false = refl
 
-  two-text : (x y : EndPlan) (o u : Option A) → endPlanText s x ≡ mapO print o → endPlanText s y ≡ mapO print u
+  two-text : (x y : PositionPlan) (o u : Option A) → endPlanText s x ≡ mapO print o → endPlanText s y ≡ mapO print u
       → planText s (placePlan isCertain x (Byte (code "_")) y) ≡ canonText (bothO two o u)
-  unfolding placeText
+  unfolding locationText
   two-text Ends.NoText y none u e f = refl
   two-text Ends.NoText y (some a) u e f = absurd (none-some e)
   two-text (Ends.Text x) y none u e f = absurd (none-some (sym e))
@@ -189,15 +189,15 @@ module _ (s : List ℕ) {A : Type 0} (print : A → List ℕ) (isCertain : Bool)
   two-text (Ends.Text x) Ends.NoText (some a) (some b) e f = absurd (none-some f)
   two-text (Ends.Text x) (Ends.Text y) (some a) none e f = absurd (none-some (sym f))
   two-text (Ends.Text x) (Ends.Text y) (some a) (some b) e f =
-      let i : endText s x ≡ print a = cc in
-      let j : endText s y ≡ print b = cc in
+      let i : positionText s x ≡ print a = cc in
+      let j : positionText s y ≡ print b = cc in
       rw (i, j) (ap some (go isCertain))
     where
-      go : (t : Bool) → markText (bracketMark t (code "(")) ++ (print a ++ (code "_" ∷ (print b ++ markText (bracketMark t (code ")"))))) ≡ printMu (printInterval print) (muOf t (two a b))
+      go : (t : Bool) → byteText (bracketMark t (code "(")) ++ (print a ++ (code "_" ∷ (print b ++ byteText (bracketMark t (code ")"))))) ≡ printMu (printInterval print) (muOf t (two a b))
       go true = rw (append-nil (print b))
       go false = ap (λ (x : List ℕ). code "(" ∷ x) (sym (append-assoc (print a) (ascii "_" ++ print b) (ascii ")")))
 
-  ends-text : (isOne : Bool) (x y : EndPlan) (o u : Option A) → endPlanText s x ≡ mapO print o → endPlanText s y ≡ mapO print u
+  ends-text : (isOne : Bool) (x y : PositionPlan) (o u : Option A) → endPlanText s x ≡ mapO print o → endPlanText s y ≡ mapO print u
       → planText s (cond isOne (placePlan isCertain x Nothing (Ends.Text noEnd)) (placePlan isCertain x (Byte (code "_")) y)) ≡ canonText (cond isOne (mapO one o) (bothO two o u))
   ends-text true x y o u e f = one-text x o e
   ends-text false x y o u e f = two-text x y o u e f

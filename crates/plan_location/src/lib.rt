@@ -1,10 +1,10 @@
 // What is to be written for a location of any kind: brackets or none, and one position where both ends are one, else two.
 use any_location::Location;
 use any_location::Position;
+use emit_location::LocationPieces;
+use emit_location::PositionPieces;
 use emit_piece::Amount;
-use emit_piece::Mark;
-use emit_place::End;
-use emit_place::Place;
+use emit_piece::OneByte;
 use record::CdsFrom;
 use record::Kind;
 use record::Offset;
@@ -14,43 +14,43 @@ ghost use mathlib.Core.Bool.{true};
 ghost use Rattle.alphabet.specs.Cells.{IsTable};
 ghost use Rattle.plan_location.specs.Plan.{heldOffset, signMark, offsetSign, offsetAmount, endPlan, unsignedPlan, basedPlan, genomicPlan, residualPlan, positionPlan, bracketMark, placePlan, planLocation};
 
-pub const NO_END: End = End {
-    residue: rows::NO_SPAN,
-    mark: Mark::Nothing,
+pub const NO_END: PositionPieces = PositionPieces {
+    residue: plan_edits::NO_SPAN,
+    mark: OneByte::Nothing,
     number: Amount::Absent,
-    sign: Mark::Nothing,
+    sign: OneByte::Nothing,
     offset: Amount::Absent,
 };
 
 // A position that is to be written, where it has a text.
-pub enum EndPlan {
+pub enum PositionPlan {
     NoText,
-    Text(End),
+    Text(PositionPieces),
 }
 
-pub enum PlacePlan {
+pub enum LocationPlan {
     NoText,
-    Text(Place),
+    Text(LocationPieces),
 }
 
 // ---- positions
 
 // `-` before a number below 0, and `other` before the rest.
-fn sign_mark(other: Mark, n: i32) -> Mark
+fn sign_mark(other: OneByte, n: i32) -> OneByte
     ensures { λ r. ⌜ r ≡ signMark other n ⌝ }
 {
     if n < 0 {
-        return Mark::Byte(b'-');
+        return OneByte::Byte(b'-');
     }
     other
 }
 
-fn offset_sign(offset: Offset) -> Mark
+fn offset_sign(offset: Offset) -> OneByte
     ensures { λ r. ⌜ r ≡ offsetSign offset ⌝ }
 {
     match offset {
-        Offset::Absent => Mark::Nothing,
-        Offset::By(n) => sign_mark(Mark::Byte(b'+'), n),
+        Offset::Absent => OneByte::Nothing,
+        Offset::By(n) => sign_mark(OneByte::Byte(b'+'), n),
     }
 }
 
@@ -60,73 +60,78 @@ fn offset_amount(offset: Offset) -> Amount
 {
     match offset {
         Offset::Absent => Amount::Absent,
-        Offset::By(n) => Amount::Count(number::magnitude(n)),
+        Offset::By(n) => Amount::Count(numerals::magnitude(n)),
     }
 }
 
 // A residue or none, a mark or none, the position's number without its sign, an offset.
-fn plan_end(residue: Span, mark: Mark, p: Position, offset: Offset) -> EndPlan
+fn plan_end(residue: Span, mark: OneByte, p: Position, offset: Offset) -> PositionPlan
     ensures { λ r. ⌜ r ≡ endPlan residue mark (p .number) offset ⌝ }
 {
-    EndPlan::Text(End {
+    PositionPlan::Text(PositionPieces {
         residue,
         mark,
-        number: Amount::Count(number::magnitude(p.number)),
+        number: Amount::Count(numerals::magnitude(p.number)),
         sign: offset_sign(offset),
         offset: offset_amount(offset),
     })
 }
 
 // An unsigned number has a text only from 0 on.
-fn plan_unsigned(residue: Span, mark: Mark, p: Position, offset: Offset) -> EndPlan
+fn plan_unsigned(residue: Span, mark: OneByte, p: Position, offset: Offset) -> PositionPlan
     ensures { λ r. ⌜ r ≡ unsignedPlan residue mark (p .number) offset ⌝ }
 {
     if p.number < 0 {
-        return EndPlan::NoText;
+        return PositionPlan::NoText;
     }
     plan_end(residue, mark, p, offset)
 }
 
 // c, n, r
-fn plan_based(from: CdsFrom, p: Position) -> EndPlan
+fn plan_based(from: CdsFrom, p: Position) -> PositionPlan
     ensures { λ r. ⌜ r ≡ basedPlan from (p .number) (p .offset) ⌝ }
 {
     let offset = p.offset;
     match from {
-        CdsFrom::Start => plan_end(rows::NO_SPAN, sign_mark(Mark::Nothing, p.number), p, offset),
-        CdsFrom::End => plan_unsigned(rows::NO_SPAN, Mark::Byte(b'*'), p, offset),
+        CdsFrom::Start => plan_end(
+            plan_edits::NO_SPAN,
+            sign_mark(OneByte::Nothing, p.number),
+            p,
+            offset,
+        ),
+        CdsFrom::End => plan_unsigned(plan_edits::NO_SPAN, OneByte::Byte(b'*'), p, offset),
     }
 }
 
 // g, m
-fn plan_genomic(p: Position) -> EndPlan
+fn plan_genomic(p: Position) -> PositionPlan
     ensures { λ r. ⌜ r ≡ genomicPlan (p .unknown) (p .number) ⌝ }
 {
     if p.unknown {
-        return EndPlan::Text(End {
-            residue: rows::NO_SPAN,
-            mark: Mark::Byte(b'?'),
+        return PositionPlan::Text(PositionPieces {
+            residue: plan_edits::NO_SPAN,
+            mark: OneByte::Byte(b'?'),
             number: Amount::Absent,
-            sign: Mark::Nothing,
+            sign: OneByte::Nothing,
             offset: Amount::Absent,
         });
     }
-    plan_unsigned(rows::NO_SPAN, Mark::Nothing, p, Offset::Absent)
+    plan_unsigned(plan_edits::NO_SPAN, OneByte::Nothing, p, Offset::Absent)
 }
 
 // p
-fn plan_residual(table: &[u8; 256], source: &[u8], p: Position) -> EndPlan
+fn plan_residual(table: &[u8; 256], source: &[u8], p: Position) -> PositionPlan
     requires { ⌜ IsTable (now table) ⌝ }
     ensures { λ r. ⌜ r ≡ residualPlan (now (source .entry)) (p .aa) (p .number) ⌝ }
 {
     let aa = p.aa;
     if residue::is_residue(table, parts::part_of(source, aa)) {
-        return plan_unsigned(aa, Mark::Nothing, p, Offset::Absent);
+        return plan_unsigned(aa, OneByte::Nothing, p, Offset::Absent);
     }
-    EndPlan::NoText
+    PositionPlan::NoText
 }
 
-fn plan_position(table: &[u8; 256], source: &[u8], kind: Kind, p: Position) -> EndPlan
+fn plan_position(table: &[u8; 256], source: &[u8], kind: Kind, p: Position) -> PositionPlan
     requires { ⌜ IsTable (now table) ⌝ }
     ensures { λ r. ⌜ r ≡ positionPlan (now (source .entry)) kind p ⌝ }
 {
@@ -146,25 +151,25 @@ fn plan_position(table: &[u8; 256], source: &[u8], kind: Kind, p: Position) -> E
 // ---- locations
 
 // In brackets where it is not certain.
-pub fn bracket(certain: bool, b: u8) -> Mark
+pub fn bracket(certain: bool, b: u8) -> OneByte
     ensures { λ r. ⌜ r ≡ bracketMark certain b ⌝ }
 {
     if certain {
-        return Mark::Nothing;
+        return OneByte::Nothing;
     }
-    Mark::Byte(b)
+    OneByte::Byte(b)
 }
 
-fn plan_place(certain: bool, start: EndPlan, joint: Mark, end: EndPlan) -> PlacePlan
+fn plan_place(certain: bool, start: PositionPlan, joint: OneByte, end: PositionPlan) -> LocationPlan
     ensures { λ r. ⌜ r ≡ placePlan certain start joint end ⌝ }
 {
-    let EndPlan::Text(first) = start else {
-        return PlacePlan::NoText;
+    let PositionPlan::Text(first) = start else {
+        return LocationPlan::NoText;
     };
-    let EndPlan::Text(last) = end else {
-        return PlacePlan::NoText;
+    let PositionPlan::Text(last) = end else {
+        return LocationPlan::NoText;
     };
-    PlacePlan::Text(Place {
+    LocationPlan::Text(LocationPieces {
         opening: bracket(certain, b'('),
         start: first,
         joint,
@@ -174,7 +179,7 @@ fn plan_place(certain: bool, start: EndPlan, joint: Mark, end: EndPlan) -> Place
 }
 
 // What is to be written for a location, where it has a text.
-pub fn plan_location(table: &[u8; 256], source: &[u8], kind: Kind, l: Location) -> PlacePlan
+pub fn plan_location(table: &[u8; 256], source: &[u8], kind: Kind, l: Location) -> LocationPlan
     requires { ⌜ IsTable (now table) ⌝ }
     ensures { λ r. ⌜ r ≡ planLocation (now (source .entry)) kind l ⌝ }
 {
@@ -182,12 +187,17 @@ pub fn plan_location(table: &[u8; 256], source: &[u8], kind: Kind, l: Location) 
     let end = l.end;
     let first = plan_position(table, source, kind, start);
     if any_location_same::same_position(source, kind, start, end) {
-        return plan_place(l.certain, first, Mark::Nothing, EndPlan::Text(NO_END));
+        return plan_place(
+            l.certain,
+            first,
+            OneByte::Nothing,
+            PositionPlan::Text(NO_END),
+        );
     }
     plan_place(
         l.certain,
         first,
-        Mark::Byte(b'_'),
+        OneByte::Byte(b'_'),
         plan_position(table, source, kind, end),
     )
 }

@@ -10,13 +10,13 @@ use Rattle.record.specs.declared.MuNaEdit.the-variants as MuNa
 use Rattle.record.specs.declared.Wording.{Wording}
 use Rattle.record.specs.declared.Wording.the-variants.{Shortest, NoRef}
 use Rattle.any_location.specs.declared.Location.{Location}
-use Rattle.emit_place.specs.declared.Place.{Place}
-use Rattle.emit_row.specs.declared.Row.{Row}
-use Rattle.rows.specs.declared.RowPlan.{RowPlan}
-use Rattle.rows.specs.declared.RowPlan.the-variants as Rows
-use Rattle.draft.specs.declared.Body.{Body}
-use Rattle.plan_location.specs.declared.PlacePlan.{PlacePlan}
-use Rattle.plan_location.specs.declared.PlacePlan.the-variants as Places
+use Rattle.emit_location.specs.declared.LocationPieces.{LocationPieces}
+use Rattle.emit_edit.specs.declared.EditPieces.{EditPieces}
+use Rattle.plan_edits.specs.declared.EditPlan.{EditPlan}
+use Rattle.plan_edits.specs.declared.EditPlan.the-variants as Rows
+use Rattle.emit_draft.specs.declared.BodyPieces.{BodyPieces}
+use Rattle.plan_location.specs.declared.LocationPlan.{LocationPlan}
+use Rattle.plan_location.specs.declared.LocationPlan.the-variants as Places
 use Rattle.plan_location.specs.Plan.{bracketMark, planLocation}
 use Rattle.plan_na_edit.specs.Plan.{planNaEdit}
 use Rattle.plan_no_ref.specs.NoRef.{noRefRow}
@@ -24,16 +24,16 @@ use Rattle.plan_na_body.specs.declared.BodyPlan.{BodyPlan}
 use Rattle.plan_na_body.specs.declared.BodyPlan.the-variants.{NoText, Text}
 
 -- an edit in brackets where it is not certain
-abbrev pub besideBody : Place → Bool → Row → Body
+abbrev pub besideBody : LocationPieces → Bool → EditPieces → BodyPieces
 besideBody p sure row = record { place = p; opening = bracketMark sure (code "("); row = row; closing = bracketMark sure (code ")") }
 
-abbrev pub joinedPlan : Bool → PlacePlan → RowPlan → BodyPlan
+abbrev pub joinedPlan : Bool → LocationPlan → EditPlan → BodyPlan
 joinedPlan sure (Places.Text p) (Rows.Text row) = Text (besideBody p sure row)
 joinedPlan sure (Places.Text p) Rows.NoText = NoText
 joinedPlan sure Places.NoText row = NoText
 
 -- another row for an edit that has a text
-abbrev pub replacedRow : RowPlan → Row → RowPlan
+abbrev pub replacedRow : EditPlan → EditPieces → EditPlan
 replacedRow Rows.NoText row = Rows.NoText
 replacedRow (Rows.Text planned) row = Rows.Text row
 
@@ -46,7 +46,7 @@ editOf (MuNa.Certain e) = e
 editOf (MuNa.Uncertain e) = e
 
 module _ (s : List ℕ) where
-  unfoldable pub naRow : Wording → NaEdit → RowPlan
+  unfoldable pub naRow : Wording → NaEdit → EditPlan
   naRow Shortest e = planNaEdit s e
   naRow NoRef e = replacedRow (planNaEdit s e) (noRefRow s e)
 

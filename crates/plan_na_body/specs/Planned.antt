@@ -17,27 +17,27 @@ use Rattle.record.specs.declared.Wording.the-variants.{Shortest, NoRef}
 use Rattle.grammar.specs.NucleotideEdits as Tree
 use Rattle.grammar.specs.NucleotideEdits.{printNaEdit}
 use Rattle.grammar.specs.Shapes.{Mu.certain, Mu.uncertain, Both.both}
-use Rattle.grammar.specs.Bodies.{Location, printLocation, printNaBody}
+use Rattle.grammar.specs.Bodies.{LocationTree, printLocation, printNaBody}
 use Rattle.grammar.specs.Records.{MuIntervalR}
 use Rattle.grammar.specs.Contents.{locationContent, naEditContent, muNaEditContent}
 use Rattle.lang.specs.Canon.{mapO, bothO, ifSome, if-same, if-map, if-both}
-use Rattle.location.specs.Canonical.{locationCanon}
-use Rattle.na_edits.specs.Alphabet.{nucleotides}
-use Rattle.na_edits.specs.Canon.{canonNaEdit}
+use Rattle.lang_locations.specs.Canonical.{locationCanon}
+use Rattle.lang_na_edits.specs.Alphabet.{nucleotides}
+use Rattle.lang_na_edits.specs.Canon.{canonNaEdit}
 use Rattle.any_location.specs.OfRecord.{anyLocation}
-use Rattle.emit_piece.specs.Texts.{markText}
-use Rattle.emit_row.specs.Texts.{rowText}
-use Rattle.emit_place.specs.Texts.{placeText}
-use Rattle.emit_row.specs.declared.Row.{Row}
-use Rattle.rows.specs.declared.RowPlan.{RowPlan}
-use Rattle.rows.specs.declared.RowPlan.the-variants as Rows
-use Rattle.rows.specs.Rows as R
-use Rattle.draft.specs.Texts.{bodyText}
-use Rattle.canon.specs.Changes.{noRefNaEdit, changedNaEdit}
-use Rattle.canon.specs.NoRefCanon.{no-ref-edit}
-use Rattle.canon.specs.Wording.{wordedNaEdit, wordedNaBody}
-use Rattle.plan_location.specs.declared.PlacePlan.{PlacePlan}
-use Rattle.plan_location.specs.declared.PlacePlan.the-variants as Places
+use Rattle.emit_piece.specs.Texts.{byteText}
+use Rattle.emit_edit.specs.Texts.{editText}
+use Rattle.emit_location.specs.Texts.{locationText}
+use Rattle.emit_edit.specs.declared.EditPieces.{EditPieces}
+use Rattle.plan_edits.specs.declared.EditPlan.{EditPlan}
+use Rattle.plan_edits.specs.declared.EditPlan.the-variants as Rows
+use Rattle.plan_edits.specs.EditPlans as R
+use Rattle.emit_draft.specs.Texts.{bodyText}
+use Rattle.lang_canon.specs.Changes.{noRefNaEdit, changedNaEdit}
+use Rattle.lang_canon.specs.NoRefCanon.{no-ref-edit}
+use Rattle.lang_canon.specs.Wording.{wordedNaEdit, wordedNaBody}
+use Rattle.plan_location.specs.declared.LocationPlan.{LocationPlan}
+use Rattle.plan_location.specs.declared.LocationPlan.the-variants as Places
 use Rattle.plan_location.specs.Plan.{bracketMark, planLocation}
 use Rattle.plan_location.specs.Planned as L
 use Rattle.plan_location.specs.Planned.{muOf}
@@ -53,19 +53,19 @@ abbrev pub wrapped : Bool → List ℕ → List ℕ
 wrapped true t = t
 wrapped false t = ascii "(" ++ (t ++ ascii ")")
 
-bracketed : (isCertain : Bool) (t : List ℕ) → markText (bracketMark isCertain (code "(")) ++ (t ++ markText (bracketMark isCertain (code ")"))) ≡ wrapped isCertain t
+bracketed : (isCertain : Bool) (t : List ℕ) → byteText (bracketMark isCertain (code "(")) ++ (t ++ byteText (bracketMark isCertain (code ")"))) ≡ wrapped isCertain t
 bracketed true t = append-nil t
 bracketed false t = refl
 
 -- a body's text is that of its location and its edit
-body-is : (isCertain : Bool) (k : Kind) (o : Option (Location k)) (u : Option Tree.NaEdit) → bothO (λ a b. printLocation k a ++ wrapped isCertain (printNaEdit b)) o u ≡ mapO (printNaBody k) (bothO both o (mapO (muOf isCertain) u))
+body-is : (isCertain : Bool) (k : Kind) (o : Option (LocationTree k)) (u : Option Tree.NaEditTree) → bothO (λ a b. printLocation k a ++ wrapped isCertain (printNaEdit b)) o u ≡ mapO (printNaBody k) (bothO both o (mapO (muOf isCertain) u))
 body-is c k none u = refl
 body-is c k (some a) none = refl
 body-is true k (some a) (some b) = refl
 body-is false k (some a) (some b) = refl
 
 -- beside one location, the changed edit in its brackets
-beside : {A B C : Type 0} (f : A → B → C) (g : Tree.NaEdit → B) (x : Option A) (o u : Option Tree.NaEdit) → ifSome (bothO f x (mapO g o)) (bothO f x (mapO g u)) ≡ bothO f x (mapO g (ifSome o u))
+beside : {A B C : Type 0} (f : A → B → C) (g : Tree.NaEditTree → B) (x : Option A) (o u : Option Tree.NaEditTree) → ifSome (bothO f x (mapO g o)) (bothO f x (mapO g u)) ≡ bothO f x (mapO g (ifSome o u))
 beside f g x o u = if-both f x (mapO g o) (mapO g u) ∙ ap (bothO f x) (if-map g o u)
 
 module _ (s : List ℕ) where
@@ -74,7 +74,7 @@ module _ (s : List ℕ) where
   planText (Text b) = some (bodyText s b)
 
   -- location beside edit, over whatever trees
-  joined-text : {A B : Type 0} (f : A → List ℕ) (g : B → List ℕ) (isCertain : Bool) (x : PlacePlan) (y : RowPlan) (o : Option A) (u : Option B) → L.planText s x ≡ mapO f o → R.planText s y ≡ mapO g u
+  joined-text : {A B : Type 0} (f : A → List ℕ) (g : B → List ℕ) (isCertain : Bool) (x : LocationPlan) (y : EditPlan) (o : Option A) (u : Option B) → L.planText s x ≡ mapO f o → R.planText s y ≡ mapO g u
       → planText (joinedPlan isCertain x y) ≡ bothO (λ a b. f a ++ wrapped isCertain (g b)) o u
   unfolding bodyText
   joined-text f g t Places.NoText y none u e h = refl
@@ -84,12 +84,12 @@ module _ (s : List ℕ) where
   joined-text f g t (Places.Text p) Rows.NoText (some a) (some b) e h = absurd (none-some h)
   joined-text f g t (Places.Text p) (Rows.Text row) (some a) none e h = absurd (none-some (sym h))
   joined-text f g t (Places.Text p) (Rows.Text row) (some a) (some b) e h =
-      let i : placeText s p ≡ f a = cc in
-      let j : rowText s row ≡ g b = cc in
+      let i : locationText s p ≡ f a = cc in
+      let j : editText s row ≡ g b = cc in
       rw (i, j) (ap (λ (w : List ℕ). some (f a ++ w)) (bracketed t (g b)))
 
   -- another row for an edit that has a text
-  replaced-text : (planned : RowPlan) (row : Row) (o u : Option Tree.NaEdit) → R.planText s planned ≡ mapO printNaEdit o → ((t : Tree.NaEdit) → o ≡ some t → mapO printNaEdit u ≡ some (rowText s row)) → R.planText s (replacedRow planned row) ≡ mapO printNaEdit (ifSome o u)
+  replaced-text : (planned : EditPlan) (row : EditPieces) (o u : Option Tree.NaEditTree) → R.planText s planned ≡ mapO printNaEdit o → ((t : Tree.NaEditTree) → o ≡ some t → mapO printNaEdit u ≡ some (editText s row)) → R.planText s (replacedRow planned row) ≡ mapO printNaEdit (ifSome o u)
   replaced-text Rows.NoText row none u e h = refl
   replaced-text Rows.NoText row (some t) u e h = absurd (none-some e)
   replaced-text (Rows.Text planned) row none u e h = absurd (none-some (sym e))

@@ -1,12 +1,12 @@
 // What is to be written for a nucleotide body: its location, then its edit, which stands in brackets where it is not certain.
 use any_location::Location;
-use draft::Body;
-use plan_location::PlacePlan;
+use emit_draft::BodyPieces;
+use plan_edits::EditPlan;
+use plan_location::LocationPlan;
 use record::Kind;
 use record::MuNaEdit;
 use record::NaEdit;
 use record::Wording;
-use rows::RowPlan;
 ghost use mathlib.Core.Path.{_≡_};
 ghost use Rattle.alphabet.specs.Cells.{IsTable};
 ghost use Rattle.plan_na_body.specs.Plan.{joinedPlan, naRow, isCertain, editOf, planNaBody};
@@ -14,19 +14,19 @@ ghost use Rattle.plan_na_body.specs.Plan.{joinedPlan, naRow, isCertain, 
 // A body that is to be written, where it has a text.
 pub enum BodyPlan {
     NoText,
-    Text(Body),
+    Text(BodyPieces),
 }
 
-fn joined(certain: bool, place: PlacePlan, row: RowPlan) -> BodyPlan
+fn joined(certain: bool, place: LocationPlan, row: EditPlan) -> BodyPlan
     ensures { λ r. ⌜ r ≡ joinedPlan certain place row ⌝ }
 {
-    let PlacePlan::Text(place) = place else {
+    let LocationPlan::Text(place) = place else {
         return BodyPlan::NoText;
     };
-    let RowPlan::Text(row) = row else {
+    let EditPlan::Text(row) = row else {
         return BodyPlan::NoText;
     };
-    BodyPlan::Text(Body {
+    BodyPlan::Text(BodyPieces {
         place,
         opening: plan_location::bracket(certain, b'('),
         row,
@@ -35,7 +35,7 @@ fn joined(certain: bool, place: PlacePlan, row: RowPlan) -> BodyPlan
 }
 
 // An edit that has no text has none in any wording.
-fn na_row(table: &[u8; 256], source: &[u8], wording: Wording, e: NaEdit) -> RowPlan
+fn na_row(table: &[u8; 256], source: &[u8], wording: Wording, e: NaEdit) -> EditPlan
     requires { ⌜ IsTable (now table) ⌝ }
     ensures { λ r. ⌜ r ≡ naRow (now (source .entry)) wording e ⌝ }
 {
@@ -45,8 +45,8 @@ fn na_row(table: &[u8; 256], source: &[u8], wording: Wording, e: NaEdit) -> RowP
         Wording::NoRef => {
             let row = plan_no_ref::no_ref(source, e);
             match planned {
-                RowPlan::NoText => RowPlan::NoText,
-                RowPlan::Text(_) => RowPlan::Text(row),
+                EditPlan::NoText => EditPlan::NoText,
+                EditPlan::Text(_) => EditPlan::Text(row),
             }
         }
     }

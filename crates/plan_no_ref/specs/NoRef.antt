@@ -9,40 +9,40 @@ use Rattle.record.specs.declared.NaEdit.the-variants as Na
 use Rattle.grammar.specs.Contents.{naEditContent}
 use Rattle.promise.specs.NoRef.{noRefEdit}
 use Rattle.emit_word.specs.declared.Word.the-variants.{Del, Ins, DelIns, Dup, Inv, Equal, Greater}
-use Rattle.emit_row.specs.declared.Row.{Row}
-use Rattle.emit_row.specs.Texts.{rowText}
-use Rattle.rows.specs.Rows.{lettersRow, wordRow, wordAlone}
-use Rattle.rows.specs.Laws.{letters-text, word-text, word-alone}
-use Rattle.na_edit_tests.specs.Tests.{sameParts, oneEachParts}
+use Rattle.emit_edit.specs.declared.EditPieces.{EditPieces}
+use Rattle.emit_edit.specs.Texts.{editText}
+use Rattle.plan_edits.specs.EditPlans.{lettersEdit, wordEdit, wordAlone}
+use Rattle.plan_edits.specs.PlanTexts.{letters-text, word-text, word-alone}
+use Rattle.plan_na_tests.specs.Tests.{sameParts, oneEachParts}
 
 module _ (s : List ℕ) where
-  unfoldable pub noRefAlt : Span → Span → Row
+  unfoldable pub noRefAlt : Span → Span → EditPieces
   noRefAlt p q =
       cond (sameParts s p q) (wordAlone Equal)
-      (cond (oneEachParts s p q) (lettersRow p Greater q) (wordRow DelIns q))
+      (cond (oneEachParts s p q) (lettersEdit p Greater q) (wordEdit DelIns q))
 
-  abbrev pub noRefRow : NaEdit → Row
+  abbrev pub noRefRow : NaEdit → EditPieces
   noRefRow (Na.RefAlt p q) = noRefAlt p q
-  noRefRow (Na.NumAlt n q) = wordRow DelIns q
+  noRefRow (Na.NumAlt n q) = wordEdit DelIns q
   noRefRow (Na.DelRef p) = wordAlone Del
   noRefRow (Na.DelNum n) = wordAlone Del
-  noRefRow (Na.Ins q) = wordRow Ins q
+  noRefRow (Na.Ins q) = wordEdit Ins q
   noRefRow (Na.Dup p) = wordAlone Dup
   noRefRow (Na.InvRef p) = wordAlone Inv
   noRefRow (Na.InvNum n) = wordAlone Inv
 
 -- ---- its text
 module _ (s : List ℕ) where
-  no-ref-alt : (p q : Span) → rowText s (noRefAlt s p q) ≡ noRefEdit (naEditContent s (Na.RefAlt p q))
+  no-ref-alt : (p q : Span) → editText s (noRefAlt s p q) ≡ noRefEdit (naEditContent s (Na.RefAlt p q))
   unfolding noRefAlt
   no-ref-alt p q = go (sameParts s p q) (oneEachParts s p q) refl refl
     where
-      go : (t u : Bool) → sameParts s p q ≡ t → oneEachParts s p q ≡ u → rowText s (noRefAlt s p q) ≡ noRefEdit (naEditContent s (Na.RefAlt p q))
+      go : (t u : Bool) → sameParts s p q ≡ t → oneEachParts s p q ≡ u → editText s (noRefAlt s p q) ≡ noRefEdit (naEditContent s (Na.RefAlt p q))
       go true u e f = rw (e, noRefAlt) (word-alone s Equal)
       go false true e f = rw (e, f, noRefAlt) (letters-text s p Greater q)
       go false false e f = rw (e, f, noRefAlt) (word-text s DelIns q)
 
-  pub no-ref-text : (e : NaEdit) → rowText s (noRefRow s e) ≡ noRefEdit (naEditContent s e)
+  pub no-ref-text : (e : NaEdit) → editText s (noRefRow s e) ≡ noRefEdit (naEditContent s e)
   no-ref-text (Na.RefAlt p q) = no-ref-alt p q
   no-ref-text (Na.NumAlt n q) = word-text s DelIns q
   no-ref-text (Na.DelRef p) = word-alone s Del

@@ -15,39 +15,39 @@ use Rattle.record.specs.declared.ProtLocEdit.{ProtLocEdit}
 use Rattle.record.specs.declared.ProtLocEdit.the-variants as Bodies
 use Rattle.grammar.specs.Spans.{part}
 use Rattle.grammar.specs.Contents.{proteinEditContent}
-use Rattle.location.specs.Equal.{eqℤ}
-use Rattle.canon.specs.ProteinBodyCanon.{isUnknown}
+use Rattle.lang_locations.specs.Equal.{eqℤ}
+use Rattle.lang_canon.specs.ProteinBodyCanon.{isUnknown}
 use Rattle.any_location.specs.declared.Position.{Position}
 use Rattle.any_location.specs.declared.Location.{Location}
 use Rattle.any_location.specs.OfRecord.{anyLocation}
-use Rattle.emit_place.specs.Texts.{noEnd}
+use Rattle.emit_location.specs.Texts.{noEnd}
 use Rattle.emit_word.specs.declared.Word.{Word}
 use Rattle.emit_word.specs.declared.Word.the-variants.{Equal, Question, Met1, NoProtein, NoProteinUncertain, NoChangeUncertain}
-use Rattle.emit_piece.specs.declared.Mark.the-variants.{Nothing, Byte}
+use Rattle.emit_piece.specs.declared.OneByte.the-variants.{Nothing, Byte}
 use Rattle.emit_piece.specs.declared.Amount.the-variants.{Absent, Count}
-use Rattle.emit_place.specs.declared.End.{End}
-use Rattle.emit_place.specs.declared.Place.{Place}
-use Rattle.emit_row.specs.declared.Row.{Row}
-use Rattle.rows.specs.Rows.{wordAlone}
-use Rattle.rows.specs.declared.RowPlan.{RowPlan}
-use Rattle.rows.specs.declared.RowPlan.the-variants as Rows
-use Rattle.draft.specs.declared.Body.{Body}
-use Rattle.plan_location.specs.declared.PlacePlan.{PlacePlan}
-use Rattle.plan_location.specs.declared.PlacePlan.the-variants as Places
+use Rattle.emit_location.specs.declared.PositionPieces.{PositionPieces}
+use Rattle.emit_location.specs.declared.LocationPieces.{LocationPieces}
+use Rattle.emit_edit.specs.declared.EditPieces.{EditPieces}
+use Rattle.plan_edits.specs.EditPlans.{wordAlone}
+use Rattle.plan_edits.specs.declared.EditPlan.{EditPlan}
+use Rattle.plan_edits.specs.declared.EditPlan.the-variants as Rows
+use Rattle.emit_draft.specs.declared.BodyPieces.{BodyPieces}
+use Rattle.plan_location.specs.declared.LocationPlan.{LocationPlan}
+use Rattle.plan_location.specs.declared.LocationPlan.the-variants as Places
 use Rattle.plan_location.specs.Plan.{bracketMark, planLocation}
 use Rattle.plan_protein_edit.specs.Plan.{planProteinEdit}
 use Rattle.plan_na_body.specs.declared.BodyPlan.{BodyPlan}
 use Rattle.plan_na_body.specs.declared.BodyPlan.the-variants.{NoText, Text}
 
 -- ---- places
-abbrev pub placeAt : End → Place
+abbrev pub placeAt : PositionPieces → LocationPieces
 placeAt e = record { opening = Nothing; start = e; joint = Nothing; end = noEnd; closing = Nothing }
 
-abbrev pub met01Place : Span → Place
+abbrev pub met01Place : Span → LocationPieces
 met01Place aa = placeAt (record { residue = aa; mark = Byte (code "0"); number = Count 1; sign = Nothing; offset = Absent })
 
 -- ---- location and edit, in one pair of brackets where both are uncertain
-abbrev pub bodyOf : Bool → Bool → Place → Row → Body
+abbrev pub bodyOf : Bool → Bool → LocationPieces → EditPieces → BodyPieces
 bodyOf isLocated isCertain p row = record {
   place = record { opening = bracketMark isLocated (code "("); start = p .start; joint = p .joint; end = p .end; closing = bracketMark (isLocated || not isCertain) (code ")") };
   opening = bracketMark (isCertain || not isLocated) (code "(");
@@ -55,7 +55,7 @@ bodyOf isLocated isCertain p row = record {
   closing = bracketMark isCertain (code ")");
 }
 
-abbrev pub togetherPlan : Bool → Bool → PlacePlan → RowPlan → BodyPlan
+abbrev pub togetherPlan : Bool → Bool → LocationPlan → EditPlan → BodyPlan
 togetherPlan isLocated isCertain (Places.Text p) (Rows.Text row) = Text (bodyOf isLocated isCertain p row)
 togetherPlan isLocated isCertain (Places.Text p) Rows.NoText = NoText
 togetherPlan isLocated isCertain Places.NoText row = NoText

@@ -7,7 +7,7 @@ use mathlib.Core.Bool.{Bool, true, false, _&&_}
 use Rattle.texts.specs.Ascii.{ascii}
 use Rattle.texts.specs.Tests.{none-some, and-true}
 use Rattle.texts.specs.Words.{same, same-true}
-use Rattle.number.specs.Digits.{decUpTo}
+use Rattle.numerals.specs.Digits.{decUpTo}
 use Rattle.record.specs.declared.Span.{Span}
 use Rattle.record.specs.declared.Kind.the-variants.{Prot}
 use Rattle.record.specs.declared.ProteinEdit.{ProteinEdit}
@@ -18,38 +18,38 @@ use Rattle.record.specs.declared.ProtLocEdit.the-variants as Bodies
 use Rattle.grammar.specs.Spans.{part}
 use Rattle.grammar.specs.Shapes.{Mu.certain, Both.both}
 use Rattle.grammar.specs.ProteinEdits as Tree
-use Rattle.grammar.specs.ProteinEdits.{ProteinEdit.substUnknown, printProteinEdit}
+use Rattle.grammar.specs.ProteinEdits.{ProteinEditTree.substUnknown, printProteinEdit}
 use Rattle.grammar.specs.Bodies.{Ends, printEnds, printLocation, printProteinBody}
 use Rattle.grammar.specs.Values.{ProtPosV, ProtPosV.protPosV, EndsV, ProteinEditV}
 use Rattle.grammar.specs.Contents.{proteinEditContent, protBodyContent}
 use Rattle.lang.specs.Canon.{mapO, bothO}
-use Rattle.location.specs.Canonical.{endsCanon}
-use Rattle.protein_edits.specs.Canonical.{proteinEditCanon}
-use Rattle.canon.specs.ProteinBodyCanon.{barred, isMet1, inner, joined, met01, canonOrdinary, canonProteinBody}
+use Rattle.lang_locations.specs.Canonical.{endsCanon}
+use Rattle.lang_protein_edits.specs.Canonical.{proteinEditCanon}
+use Rattle.lang_canon.specs.ProteinBodyCanon.{barred, isMet1, inner, joined, met01, canonOrdinary, canonProteinBody}
 use Rattle.any_location.specs.declared.Position.{Position}
 use Rattle.any_location.specs.declared.Location.{Location}
 use Rattle.any_location.specs.OfRecord.{anyLocation}
-use Rattle.emit_piece.specs.Texts.{markText}
-use Rattle.emit_place.specs.Texts.{endText, placeText}
-use Rattle.emit_row.specs.Texts.{rowText}
-use Rattle.emit_place.specs.Laws.{no-end}
+use Rattle.emit_piece.specs.Texts.{byteText}
+use Rattle.emit_location.specs.Texts.{positionText, locationText}
+use Rattle.emit_edit.specs.Texts.{editText}
+use Rattle.emit_location.specs.LocationLengths.{no-end}
 use Rattle.emit_word.specs.declared.Word.{Word}
 use Rattle.emit_word.specs.declared.Word.the-variants.{Equal, Question, Met1, NoProtein, NoProteinUncertain, NoChangeUncertain}
-use Rattle.emit_piece.specs.declared.Mark.{Mark}
-use Rattle.emit_place.specs.declared.Place.{Place}
-use Rattle.emit_row.specs.declared.Row.{Row}
+use Rattle.emit_piece.specs.declared.OneByte.{OneByte}
+use Rattle.emit_location.specs.declared.LocationPieces.{LocationPieces}
+use Rattle.emit_edit.specs.declared.EditPieces.{EditPieces}
 use Rattle.emit_word.specs.Words.{wordText}
-use Rattle.rows.specs.Rows as R
-use Rattle.rows.specs.Rows.{wordAlone}
-use Rattle.rows.specs.Laws.{word-alone}
-use Rattle.rows.specs.declared.RowPlan.{RowPlan}
-use Rattle.rows.specs.declared.RowPlan.the-variants as Rows
-use Rattle.draft.specs.Texts.{bodyText}
+use Rattle.plan_edits.specs.EditPlans as R
+use Rattle.plan_edits.specs.EditPlans.{wordAlone}
+use Rattle.plan_edits.specs.PlanTexts.{word-alone}
+use Rattle.plan_edits.specs.declared.EditPlan.{EditPlan}
+use Rattle.plan_edits.specs.declared.EditPlan.the-variants as Rows
+use Rattle.emit_draft.specs.Texts.{bodyText}
 use Rattle.any_location_same.specs.Same.{samePosition}
-use Rattle.plan_location.specs.declared.EndPlan.{EndPlan}
-use Rattle.plan_location.specs.declared.EndPlan.the-variants as EndPlans
-use Rattle.plan_location.specs.declared.PlacePlan.{PlacePlan}
-use Rattle.plan_location.specs.declared.PlacePlan.the-variants as Places
+use Rattle.plan_location.specs.declared.PositionPlan.{PositionPlan}
+use Rattle.plan_location.specs.declared.PositionPlan.the-variants as EndPlans
+use Rattle.plan_location.specs.declared.LocationPlan.{LocationPlan}
+use Rattle.plan_location.specs.declared.LocationPlan.the-variants as Places
 use Rattle.plan_location.specs.Plan.{placePlan, positionPlan, planLocation}
 use Rattle.plan_location.specs.Planned as L
 use Rattle.plan_location.specs.Planned.{muOf}
@@ -73,27 +73,27 @@ flat-both x y z r = simp (append-nil, append-assoc) refl
 
 module _ (s : List ℕ) where
   -- ---- location and edit
-  abbrev bareText : Place → List ℕ
-  bareText p = endText s (p .start) ++ (markText (p .joint) ++ endText s (p .end))
+  abbrev bareText : LocationPieces → List ℕ
+  bareText p = positionText s (p .start) ++ (byteText (p .joint) ++ positionText s (p .end))
 
-  body-text : (isLocated isCertain : Bool) (p : Place) (row : Row) (i : EndsV Prot) (v : ProteinEditV) (a : Ends Prot) (b : Tree.ProteinEdit) → bareText p ≡ printEnds Prot a → rowText s row ≡ printProteinEdit b
+  body-text : (isLocated isCertain : Bool) (p : LocationPieces) (row : EditPieces) (i : EndsV Prot) (v : ProteinEditV) (a : Ends Prot) (b : Tree.ProteinEditTree) → bareText p ≡ printEnds Prot a → editText s row ≡ printProteinEdit b
       → bodyText s (bodyOf isLocated isCertain p row) ≡ printProteinBody (joined (muOf isLocated i) (muOf isCertain v) a b)
-  unfolding bodyText placeText
-  body-text true true p row i v a b e f = rw (← e, ← f) (flat (endText s (p .start)) (markText (p .joint)) (endText s (p .end)) (rowText s row))
-  body-text true false p row i v a b e f = rw (← e, ← f) (flat-edit (endText s (p .start)) (markText (p .joint)) (endText s (p .end)) (rowText s row))
-  body-text false true p row i v a b e f = rw (← e, ← f) (flat-place (endText s (p .start)) (markText (p .joint)) (endText s (p .end)) (rowText s row))
-  body-text false false p row i v a b e f = rw (← e, ← f) (flat-both (endText s (p .start)) (markText (p .joint)) (endText s (p .end)) (rowText s row))
+  unfolding bodyText locationText
+  body-text true true p row i v a b e f = rw (← e, ← f) (flat (positionText s (p .start)) (byteText (p .joint)) (positionText s (p .end)) (editText s row))
+  body-text true false p row i v a b e f = rw (← e, ← f) (flat-edit (positionText s (p .start)) (byteText (p .joint)) (positionText s (p .end)) (editText s row))
+  body-text false true p row i v a b e f = rw (← e, ← f) (flat-place (positionText s (p .start)) (byteText (p .joint)) (positionText s (p .end)) (editText s row))
+  body-text false false p row i v a b e f = rw (← e, ← f) (flat-both (positionText s (p .start)) (byteText (p .joint)) (positionText s (p .end)) (editText s row))
 
   -- ---- the ends of a location, without its brackets
-  abbrev planBare : PlacePlan → Option (List ℕ)
+  abbrev planBare : LocationPlan → Option (List ℕ)
   planBare Places.NoText = none
   planBare (Places.Text p) = some (bareText p)
 
-  bare-place : (isCertain : Bool) (x : EndPlan) (m : Mark) (y : EndPlan) → planBare (placePlan isCertain x m y) ≡ L.planText s (placePlan true x m y)
-  unfolding placeText
+  bare-place : (isCertain : Bool) (x : PositionPlan) (m : OneByte) (y : PositionPlan) → planBare (placePlan isCertain x m y) ≡ L.planText s (placePlan true x m y)
+  unfolding locationText
   bare-place isCertain EndPlans.NoText m y = refl
   bare-place isCertain (EndPlans.Text e) m EndPlans.NoText = refl
-  bare-place isCertain (EndPlans.Text e) m (EndPlans.Text f) = rw (append-nil (endText s f))
+  bare-place isCertain (EndPlans.Text e) m (EndPlans.Text f) = rw (append-nil (positionText s f))
 
   abbrev surely : Location → Location
   surely l = record { certain = true; start = l .start; end = l .end }
@@ -119,7 +119,7 @@ module _ (s : List ℕ) where
   bare-planned : (l : Location) → planBare (planLocation s Prot l) ≡ mapO (printEnds Prot) (endsCanon Prot .canon (endsOf l))
   bare-planned l = bare-certain l ∙ L.planned s Prot (surely l) ∙ without-brackets (endsCanon Prot .canon (endsOf l))
 
-  together-text : (isLocated isCertain : Bool) (i : EndsV Prot) (v : ProteinEditV) (x : PlacePlan) (y : RowPlan) (o : Option (Ends Prot)) (u : Option Tree.ProteinEdit) → planBare x ≡ mapO (printEnds Prot) o → R.planText s y ≡ mapO printProteinEdit u
+  together-text : (isLocated isCertain : Bool) (i : EndsV Prot) (v : ProteinEditV) (x : LocationPlan) (y : EditPlan) (o : Option (Ends Prot)) (u : Option Tree.ProteinEditTree) → planBare x ≡ mapO (printEnds Prot) o → R.planText s y ≡ mapO printProteinEdit u
       → planText s (togetherPlan isLocated isCertain x y) ≡ mapO printProteinBody (bothO (joined (muOf isLocated i) (muOf isCertain v)) o u)
   together-text l c i v Places.NoText y none u e f = refl
   together-text l c i v Places.NoText y (some a) u e f = absurd (none-some e)
@@ -129,7 +129,7 @@ module _ (s : List ℕ) where
   together-text l c i v (Places.Text p) (Rows.Text row) (some a) none e f = absurd (none-some (sym f))
   together-text l c i v (Places.Text p) (Rows.Text row) (some a) (some b) e f =
       let g : bareText p ≡ printEnds Prot a = cc in
-      let h : rowText s row ≡ printProteinEdit b = cc in
+      let h : editText s row ≡ printProteinEdit b = cc in
       ap some (body-text l c p row i v a b g h)
 
   -- ---- the Met-1 `?` record
@@ -148,7 +148,7 @@ module _ (s : List ℕ) where
   barred-met l t e = barred-is (l .certain) t (endsOf l) (proteinEditContent s e)
 
   met01-text : (aa : Span) → part s aa ≡ ascii "Met" → bareText (met01Place aa) ≡ printEnds Prot met01
-  unfolding endText decUpTo
+  unfolding positionText decUpTo
   met01-text aa e = rw (no-end s, e)
 
   met-residue : (l : Location) (isCertain : Bool) (e : ProteinEdit) → isBarred s l isCertain e ≡ true → part s (l .start .aa) ≡ ascii "Met"
@@ -178,7 +178,7 @@ module _ (s : List ℕ) where
 
   -- ---- bodies
   word-body : (word : Word) → planText s (wordBody word) ≡ some (wordText word)
-  unfolding bodyText placeText
+  unfolding bodyText locationText
   word-body word = rw (no-end s, word-alone s word, append-nil (wordText word))
 
   pub planned-protein : (b : ProtLocEdit) → planText s (planProteinBody s b) ≡ mapO printProteinBody (canonProteinBody (protBodyContent s b))

@@ -1,21 +1,21 @@
 // What is to be written for a protein body: location and edit, in one pair of brackets where both are uncertain; or a word alone.
 use any_location::Location;
 use any_location::Position;
-use draft::Body;
+use emit_draft::BodyPieces;
+use emit_edit::EditPieces;
+use emit_location::LocationPieces;
+use emit_location::PositionPieces;
 use emit_piece::Amount;
-use emit_piece::Mark;
-use emit_place::End;
-use emit_place::Place;
-use emit_row::Row;
+use emit_piece::OneByte;
 use emit_word::Word;
-use plan_location::PlacePlan;
+use plan_edits::EditPlan;
+use plan_location::LocationPlan;
 use plan_na_body::BodyPlan;
 use record::Kind;
 use record::MuProteinEdit;
 use record::ProtLocEdit;
 use record::ProteinEdit;
 use record::Span;
-use rows::RowPlan;
 ghost use mathlib.Core.Path.{_≡_};
 ghost use mathlib.Core.Bool.{_||_, not};
 ghost use Rattle.texts.specs.Words.{same};
@@ -86,27 +86,27 @@ fn is_barred(source: &[u8], l: Location, certain: bool, e: ProteinEdit) -> bool
 
 // ---- places
 
-fn place_at(start: End) -> Place
+fn place_at(start: PositionPieces) -> LocationPieces
     ensures { λ r. ⌜ r ≡ placeAt start ⌝ }
 {
-    Place {
-        opening: Mark::Nothing,
+    LocationPieces {
+        opening: OneByte::Nothing,
         start,
-        joint: Mark::Nothing,
+        joint: OneByte::Nothing,
         end: plan_location::NO_END,
-        closing: Mark::Nothing,
+        closing: OneByte::Nothing,
     }
 }
 
 // `Met01`
-fn met01(aa: Span) -> Place
+fn met01(aa: Span) -> LocationPieces
     ensures { λ r. ⌜ r ≡ met01Place aa ⌝ }
 {
-    place_at(End {
+    place_at(PositionPieces {
         residue: aa,
-        mark: Mark::Byte(b'0'),
+        mark: OneByte::Byte(b'0'),
         number: Amount::Count(1),
-        sign: Mark::Nothing,
+        sign: OneByte::Nothing,
         offset: Amount::Absent,
     })
 }
@@ -123,14 +123,14 @@ fn or_not(a: bool, b: bool) -> bool
 }
 
 // In one pair of brackets where both are uncertain.
-fn body_of(located: bool, certain: bool, place: Place, row: Row) -> Body
+fn body_of(located: bool, certain: bool, place: LocationPieces, row: EditPieces) -> BodyPieces
     ensures { λ r. ⌜ r ≡ bodyOf located certain place row ⌝ }
 {
     let start = place.start;
     let joint = place.joint;
     let end = place.end;
-    Body {
-        place: Place {
+    BodyPieces {
+        place: LocationPieces {
             opening: plan_location::bracket(located, b'('),
             start,
             joint,
@@ -143,13 +143,13 @@ fn body_of(located: bool, certain: bool, place: Place, row: Row) -> Body
     }
 }
 
-fn together(located: bool, certain: bool, place: PlacePlan, row: RowPlan) -> BodyPlan
+fn together(located: bool, certain: bool, place: LocationPlan, row: EditPlan) -> BodyPlan
     ensures { λ r. ⌜ r ≡ togetherPlan located certain place row ⌝ }
 {
-    let PlacePlan::Text(p) = place else {
+    let LocationPlan::Text(p) = place else {
         return BodyPlan::NoText;
     };
-    let RowPlan::Text(e) = row else {
+    let EditPlan::Text(e) = row else {
         return BodyPlan::NoText;
     };
     BodyPlan::Text(body_of(located, certain, p, e))
@@ -172,7 +172,7 @@ fn plan_ordinary(
             l.certain,
             certain,
             met01(aa),
-            rows::word_alone(Word::Question),
+            plan_edits::word_alone(Word::Question),
         ));
     }
     together(
@@ -198,11 +198,11 @@ fn plan_mu(table: &[u8; 256], source: &[u8], l: Location, e: MuProteinEdit) -> B
 fn word_body(word: Word) -> BodyPlan
     ensures { λ r. ⌜ r ≡ wordBody word ⌝ }
 {
-    BodyPlan::Text(Body {
+    BodyPlan::Text(BodyPieces {
         place: place_at(plan_location::NO_END),
-        opening: Mark::Nothing,
-        row: rows::word_alone(word),
-        closing: Mark::Nothing,
+        opening: OneByte::Nothing,
+        row: plan_edits::word_alone(word),
+        closing: OneByte::Nothing,
     })
 }
 

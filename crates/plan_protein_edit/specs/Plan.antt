@@ -15,16 +15,16 @@ use Rattle.record.specs.declared.ProteinEdit.the-variants as Pr
 use Rattle.grammar.specs.Spans.{part}
 use Rattle.emit_word.specs.declared.Word.{Word}
 use Rattle.emit_word.specs.declared.Word.the-variants.{Empty, Del, Ins, DelIns, Dup, Fs, Ext, Equal, Question}
-use Rattle.emit_piece.specs.declared.Mark.{Mark}
-use Rattle.emit_piece.specs.declared.Mark.the-variants.{Nothing, Byte}
+use Rattle.emit_piece.specs.declared.OneByte.{OneByte}
+use Rattle.emit_piece.specs.declared.OneByte.the-variants.{Nothing, Byte}
 use Rattle.emit_piece.specs.declared.Amount.{Amount}
 use Rattle.emit_piece.specs.declared.Amount.the-variants.{Absent, Count}
-use Rattle.emit_row.specs.declared.Row.{Row}
+use Rattle.emit_edit.specs.declared.EditPieces.{EditPieces}
 use Rattle.emit_piece.specs.Texts.{noSpan}
-use Rattle.rows.specs.Rows.{rowIf, lettersRow, wordRow, wordAlone, isUnsigned}
-use Rattle.rows.specs.declared.RowPlan.{RowPlan}
-use Rattle.rows.specs.declared.RowPlan.the-variants.{NoText, Text}
-use Rattle.protein_edit_tests.specs.Tests.{isNegated, isTerminal, isOptionalPart, isSubst}
+use Rattle.plan_edits.specs.EditPlans.{editIf, lettersEdit, wordEdit, wordAlone, isUnsigned}
+use Rattle.plan_edits.specs.declared.EditPlan.{EditPlan}
+use Rattle.plan_edits.specs.declared.EditPlan.the-variants.{NoText, Text}
+use Rattle.plan_protein_tests.specs.Tests.{isNegated, isTerminal, isOptionalPart, isSubst}
 
 -- ---- what stands in the row
 abbrev pub spanOf : Part → Span
@@ -43,7 +43,7 @@ jointOf Unknown = Question
 jointOf (Known z) = Empty
 
 -- an optional residue, a word, an optional terminal or residue, a sign, a length
-abbrev pub endRow : Part → Word → Part → Mark → UncertainLengthChange → Row
+abbrev pub endRow : Part → Word → Part → OneByte → UncertainLengthChange → EditPieces
 endRow r word t sign n = record { first = spanOf r; word = word; second = spanOf t; sign = sign; amount = amountOf n; joint = jointOf n; last = noSpan }
 
 -- ---- tests
@@ -73,24 +73,24 @@ module _ (s : List ℕ) where
   isEarlier t (Known z) = isOptionalPart s t && isNegated z
 
   -- ---- plans
-  unfoldable pub planFs : Part → Part → UncertainLengthChange → RowPlan
-  planFs r t n = cond (isOptionalPart s r) (rowIf (isStop t n) (endRow r Fs t Nothing n)) NoText
+  unfoldable pub planFs : Part → Part → UncertainLengthChange → EditPlan
+  planFs r t n = cond (isOptionalPart s r) (editIf (isStop t n) (endRow r Fs t Nothing n)) NoText
 
   -- `extTer0`, and `-` where no terminal does
-  unfoldable pub planExt : Part → Part → UncertainLengthChange → RowPlan
+  unfoldable pub planExt : Part → Part → UncertainLengthChange → EditPlan
   planExt r t n =
       cond (isOptionalPart s r)
       (cond (isStop t n) (Text (endRow r Ext t Nothing n))
-      (rowIf (isEarlier t n) (endRow r Ext t (Byte (code "-")) n)))
+      (editIf (isEarlier t n) (endRow r Ext t (Byte (code "-")) n)))
       NoText
 
-  abbrev pub planSubst : Span → RowPlan
-  planSubst p = rowIf (isSubst s p) (lettersRow p Empty noSpan)
+  abbrev pub planSubst : Span → EditPlan
+  planSubst p = editIf (isSubst s p) (lettersEdit p Empty noSpan)
 
-  abbrev pub planResidues : Word → Span → RowPlan
-  planResidues word p = rowIf (isResidues (part s p)) (wordRow word p)
+  abbrev pub planResidues : Word → Span → EditPlan
+  planResidues word p = editIf (isResidues (part s p)) (wordEdit word p)
 
-  abbrev pub planProteinEdit : ProteinEdit → RowPlan
+  abbrev pub planProteinEdit : ProteinEdit → EditPlan
   planProteinEdit (Pr.Fs r t n) = planFs r t n
   planProteinEdit (Pr.Ext r t n) = planExt r t n
   planProteinEdit (Pr.Subst p) = planSubst p

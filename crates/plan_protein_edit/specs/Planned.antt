@@ -7,8 +7,8 @@ use mathlib.Core.Option.{Option, none, some}
 use mathlib.Core.Bool.{Bool, true, false, cond, _&&_}
 use lib.IntN.{ℤ, natAbs}
 use Rattle.texts.specs.Ascii.{ascii}
-use Rattle.number.specs.Digits.{dec}
-use Rattle.number.specs.Written.{unsignedDigits, negatedDigits}
+use Rattle.numerals.specs.Digits.{dec}
+use Rattle.numerals.specs.Written.{unsignedDigits, negatedDigits}
 use Rattle.residue.specs.Residues.{isResidues}
 use Rattle.record.specs.declared.Span.{Span}
 use Rattle.record.specs.declared.Part.{Part}
@@ -20,25 +20,25 @@ use Rattle.record.specs.declared.ProteinEdit.the-variants as Pr
 use Rattle.grammar.specs.Spans.{part, optionalPart}
 use Rattle.grammar.specs.Contents.{proteinEditContent}
 use Rattle.grammar.specs.Optional.{printOptional}
-use Rattle.grammar.specs.ProteinEdits.{Terminal, Length, Length.counted, Length.unknown, Length.unsaid, Stop.stop, ExtEnd, ExtEnd.nothing, ExtEnd.later, ExtEnd.earlier, ProteinEdit.equal, ProteinEdit.del, ProteinEdit.dup, ProteinEdit.ins, ProteinEdit.delIns, ProteinEdit.fs, ProteinEdit.ext, printTerminal, printLength, printStop, printFsEnd, printExtEnd, printProteinEdit}
+use Rattle.grammar.specs.ProteinEdits.{Terminal, Length, Length.counted, Length.unknown, Length.unsaid, Stop.stop, ExtEnd, ExtEnd.nothing, ExtEnd.later, ExtEnd.earlier, ProteinEditTree.equal, ProteinEditTree.del, ProteinEditTree.dup, ProteinEditTree.ins, ProteinEditTree.delIns, ProteinEditTree.fs, ProteinEditTree.ext, printTerminal, printLength, printStop, printFsEnd, printExtEnd, printProteinEdit}
 use Rattle.grammar.specs.Values.{ProteinEditV.substV}
 use Rattle.lang.specs.Choice.{orNext}
 use Rattle.lang.specs.Canon.{mapO, bothO}
-use Rattle.protein_edits.specs.Canon.{canonLength, canonStop, canonFsEnd, canonEarlier, canonExtEnd, canonProteinEdit}
+use Rattle.lang_protein_edits.specs.Canon.{canonLength, canonStop, canonFsEnd, canonEarlier, canonExtEnd, canonProteinEdit}
 use Rattle.emit_word.specs.declared.Word.{Word}
 use Rattle.emit_word.specs.declared.Word.the-variants.{Empty, Del, Ins, DelIns, Dup, Fs, Ext, Equal}
-use Rattle.emit_piece.specs.declared.Mark.{Mark}
-use Rattle.emit_piece.specs.declared.Mark.the-variants.{Nothing, Byte}
-use Rattle.emit_row.specs.declared.Row.{Row}
+use Rattle.emit_piece.specs.declared.OneByte.{OneByte}
+use Rattle.emit_piece.specs.declared.OneByte.the-variants.{Nothing, Byte}
+use Rattle.emit_edit.specs.declared.EditPieces.{EditPieces}
 use Rattle.emit_word.specs.Words.{wordText}
-use Rattle.emit_piece.specs.Texts.{noSpan, markText, amountText}
-use Rattle.emit_row.specs.Texts.{rowText}
-use Rattle.emit_piece.specs.Laws.{no-part}
-use Rattle.rows.specs.Rows.{planText, rowIf, lettersRow, isUnsigned}
-use Rattle.rows.specs.declared.RowPlan.the-variants.{Text}
-use Rattle.rows.specs.Laws.{letters-text, word-text, word-alone, either, row-text, row-if, unsigned-digits}
-use Rattle.protein_edit_tests.specs.Tests.{isNegated, isTerminal, isOptionalPart, isSubst}
-use Rattle.protein_edit_tests.specs.Found.{Found, Found.yes, Found.no, found-if, found-map, terminal-found, itself, negated-found, subst-found}
+use Rattle.emit_piece.specs.Texts.{noSpan, byteText, amountText}
+use Rattle.emit_edit.specs.Texts.{editText}
+use Rattle.emit_piece.specs.PartLengths.{no-part}
+use Rattle.plan_edits.specs.EditPlans.{planText, editIf, lettersEdit, isUnsigned}
+use Rattle.plan_edits.specs.declared.EditPlan.the-variants.{Text}
+use Rattle.plan_edits.specs.PlanTexts.{letters-text, word-text, word-alone, either, row-text, edit-if, unsigned-digits}
+use Rattle.plan_protein_tests.specs.Tests.{isNegated, isTerminal, isOptionalPart, isSubst}
+use Rattle.plan_protein_tests.specs.Found.{Found, Found.yes, Found.no, found-if, found-map, terminal-found, itself, negated-found, subst-found}
 use Rattle.plan_protein_edit.specs.Plan.{spanOf, amountOf, jointOf, endRow, isLength, isStop, isEarlier, planFs, planExt, planSubst, planProteinEdit}
 
 map-next : {A B : Type 0} (f : A → B) (o u : Option A) → mapO f (orNext o u) ≡ orNext (mapO f o) (mapO f u)
@@ -111,17 +111,17 @@ module _ (s : List ℕ) where
       go false e = rw e no
 
   -- ---- rows and plans
-  end-text : (r : Part) (word : Word) (t : Part) (sign : Mark) (n : UncertainLengthChange)
-      → rowText s (endRow r word t sign n) ≡ printOptional [] (optionalPart s r) ++ (wordText word ++ (part s (spanOf t) ++ (markText sign ++ lengthText n)))
-  unfolding rowText
+  end-text : (r : Part) (word : Word) (t : Part) (sign : OneByte) (n : UncertainLengthChange)
+      → editText s (endRow r word t sign n) ≡ printOptional [] (optionalPart s r) ++ (wordText word ++ (part s (spanOf t) ++ (byteText sign ++ lengthText n)))
+  unfolding editText
   end-text r word t sign n = rw (no-part s, append-nil (wordText (jointOf n)), optional-text r)
 
   module _ {A : Type 0} (print : A → List ℕ) where
-    found-row : {text : List ℕ} {b : Bool} {o : Option A} (row : Row) → rowText s row ≡ text → Found print text b o → planText s (rowIf b row) ≡ mapO print o
+    found-row : {text : List ℕ} {b : Bool} {o : Option A} (row : EditPieces) → editText s row ≡ text → Found print text b o → planText s (editIf b row) ≡ mapO print o
     found-row row e (yes a f) = ap some (e ∙ sym f)
     found-row row e no = refl
 
-    next-row : {x y : List ℕ} {b c : Bool} {o u : Option A} (first second : Row) → rowText s first ≡ x → rowText s second ≡ y → Found print x b o → Found print y c u → planText s (cond b (Text first) (rowIf c second)) ≡ mapO print (orNext o u)
+    next-row : {x y : List ℕ} {b c : Bool} {o u : Option A} (first second : EditPieces) → editText s first ≡ x → editText s second ≡ y → Found print x b o → Found print y c u → planText s (cond b (Text first) (editIf c second)) ≡ mapO print (orNext o u)
     next-row first second e f (yes a g) h = ap some (e ∙ sym g)
     next-row first second e f no h = found-row second f h
 
@@ -147,14 +147,14 @@ module _ (s : List ℕ) where
   subst-planned : (p : Span) → planText s (planSubst s p) ≡ mapO printProteinEdit (canonProteinEdit (substV (part s p)))
   unfolding isSubst
   subst-planned p =
-      found-row printProteinEdit (lettersRow p Empty noSpan) (letters-text s p Empty noSpan ∙ rw (no-part s, append-nil (part s p))) (subst-found (part s p))
+      found-row printProteinEdit (lettersEdit p Empty noSpan) (letters-text s p Empty noSpan ∙ rw (no-part s, append-nil (part s p))) (subst-found (part s p))
 
   pub planned : (e : ProteinEdit) → planText s (planProteinEdit s e) ≡ mapO printProteinEdit (canonProteinEdit (proteinEditContent s e))
   planned (Pr.Fs r t n) = fs-planned r t n
   planned (Pr.Ext r t n) = ext-planned r t n
   planned (Pr.Subst p) = subst-planned p
-  planned (Pr.DelIns p) = row-if s printProteinEdit (isResidues (part s p)) _ (delIns (part s p)) (word-text s DelIns p)
-  planned (Pr.Ins p) = row-if s printProteinEdit (isResidues (part s p)) _ (ins (part s p)) (word-text s Ins p)
+  planned (Pr.DelIns p) = edit-if s printProteinEdit (isResidues (part s p)) _ (delIns (part s p)) (word-text s DelIns p)
+  planned (Pr.Ins p) = edit-if s printProteinEdit (isResidues (part s p)) _ (ins (part s p)) (word-text s Ins p)
   planned Pr.Del = row-text s printProteinEdit _ del (word-alone s Del)
   planned Pr.Dup = row-text s printProteinEdit _ dup (word-alone s Dup)
   planned Pr.Ident = row-text s printProteinEdit _ equal (word-alone s Equal)

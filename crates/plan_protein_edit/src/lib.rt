@@ -1,13 +1,13 @@
 // Which text is to be written for a protein edit: a row of pieces, or none.
+use emit_edit::EditPieces;
 use emit_piece::Amount;
-use emit_piece::Mark;
-use emit_row::Row;
+use emit_piece::OneByte;
 use emit_word::Word;
+use plan_edits::EditPlan;
 use record::Part;
 use record::ProteinEdit;
 use record::Span;
 use record::UncertainLengthChange;
-use rows::RowPlan;
 ghost use mathlib.Core.Path.{_≡_};
 ghost use Rattle.alphabet.specs.Cells.{IsTable};
 ghost use Rattle.plan_protein_edit.specs.Plan.{spanOf, amountOf, jointOf, endRow, isLength, isNone, isTerminalWith, isStop, isEarlier, planFs, planExt, planSubst, planResidues, planProteinEdit};
@@ -18,7 +18,7 @@ fn span_of(p: Part) -> Span
     ensures { λ r. ⌜ r ≡ spanOf p ⌝ }
 {
     match p {
-        Part::Absent => rows::NO_SPAN,
+        Part::Absent => plan_edits::NO_SPAN,
         Part::Present(p) => p,
     }
 }
@@ -30,7 +30,7 @@ fn amount_of(n: UncertainLengthChange) -> Amount
     match n {
         UncertainLengthChange::None => Amount::Absent,
         UncertainLengthChange::Unknown => Amount::Absent,
-        UncertainLengthChange::Known(z) => Amount::Count(number::magnitude(z)),
+        UncertainLengthChange::Known(z) => Amount::Count(numerals::magnitude(z)),
     }
 }
 
@@ -44,17 +44,23 @@ fn joint_of(n: UncertainLengthChange) -> Word
     }
 }
 
-fn end_row(residue: Part, word: Word, end: Part, sign: Mark, n: UncertainLengthChange) -> Row
+fn end_row(
+    residue: Part,
+    word: Word,
+    end: Part,
+    sign: OneByte,
+    n: UncertainLengthChange,
+) -> EditPieces
     ensures { λ r. ⌜ r ≡ endRow residue word end sign n ⌝ }
 {
-    Row {
+    EditPieces {
         first: span_of(residue),
         word,
         second: span_of(end),
         sign,
         amount: amount_of(n),
         joint: joint_of(n),
-        last: rows::NO_SPAN,
+        last: plan_edits::NO_SPAN,
     }
 }
 
@@ -66,7 +72,7 @@ fn is_length(n: UncertainLengthChange) -> bool
     match n {
         UncertainLengthChange::None => true,
         UncertainLengthChange::Unknown => true,
-        UncertainLengthChange::Known(z) => rows::is_unsigned(z),
+        UncertainLengthChange::Known(z) => plan_edits::is_unsigned(z),
     }
 }
 
@@ -83,7 +89,7 @@ fn is_none(n: UncertainLengthChange) -> bool
 fn is_terminal_with(source: &[u8], p: Span, n: UncertainLengthChange) -> bool
     ensures { λ r. ⌜ r ≡ isTerminalWith (now (source .entry)) p n ⌝ }
 {
-    if protein_edit_tests::is_terminal(parts::part_of(source, p)) {
+    if plan_protein_tests::is_terminal(parts::part_of(source, p)) {
         return is_length(n);
     }
     false
@@ -108,8 +114,8 @@ fn is_earlier(table: &[u8; 256], source: &[u8], end: Part, n: UncertainLengthCha
         UncertainLengthChange::None => false,
         UncertainLengthChange::Unknown => false,
         UncertainLengthChange::Known(z) => {
-            if protein_edit_tests::is_optional(table, source, end) {
-                return protein_edit_tests::is_negated(z);
+            if plan_protein_tests::is_optional(table, source, end) {
+                return plan_protein_tests::is_negated(z);
             }
             false
         }
@@ -124,16 +130,16 @@ fn plan_fs(
     residue: Part,
     end: Part,
     n: UncertainLengthChange,
-) -> RowPlan
+) -> EditPlan
     requires { ⌜ IsTable (now table) ⌝ }
     ensures { λ r. ⌜ r ≡ planFs (now (source .entry)) residue end n ⌝ }
 {
-    if !protein_edit_tests::is_optional(table, source, residue) {
-        return RowPlan::NoText;
+    if !plan_protein_tests::is_optional(table, source, residue) {
+        return EditPlan::NoText;
     }
-    rows::row_if(
+    plan_edits::edit_if(
         is_stop(source, end, n),
-        end_row(residue, Word::Fs, end, Mark::Nothing, n),
+        end_row(residue, Word::Fs, end, OneByte::Nothing, n),
     )
 }
 
@@ -143,44 +149,44 @@ fn plan_ext(
     residue: Part,
     end: Part,
     n: UncertainLengthChange,
-) -> RowPlan
+) -> EditPlan
     requires { ⌜ IsTable (now table) ⌝ }
     ensures { λ r. ⌜ r ≡ planExt (now (source .entry)) residue end n ⌝ }
 {
-    if !protein_edit_tests::is_optional(table, source, residue) {
-        return RowPlan::NoText;
+    if !plan_protein_tests::is_optional(table, source, residue) {
+        return EditPlan::NoText;
     }
     if is_stop(source, end, n) {
-        return RowPlan::Text(end_row(residue, Word::Ext, end, Mark::Nothing, n));
+        return EditPlan::Text(end_row(residue, Word::Ext, end, OneByte::Nothing, n));
     }
-    rows::row_if(
+    plan_edits::edit_if(
         is_earlier(table, source, end, n),
-        end_row(residue, Word::Ext, end, Mark::Byte(b'-'), n),
+        end_row(residue, Word::Ext, end, OneByte::Byte(b'-'), n),
     )
 }
 
-fn plan_subst(table: &[u8; 256], source: &[u8], p: Span) -> RowPlan
+fn plan_subst(table: &[u8; 256], source: &[u8], p: Span) -> EditPlan
     requires { ⌜ IsTable (now table) ⌝ }
     ensures { λ r. ⌜ r ≡ planSubst (now (source .entry)) p ⌝ }
 {
-    rows::row_if(
-        protein_edit_tests::is_subst(table, source, p),
-        rows::letters_row(p, Word::Empty, rows::NO_SPAN),
+    plan_edits::edit_if(
+        plan_protein_tests::is_subst(table, source, p),
+        plan_edits::letters_edit(p, Word::Empty, plan_edits::NO_SPAN),
     )
 }
 
-fn plan_residues(table: &[u8; 256], source: &[u8], word: Word, p: Span) -> RowPlan
+fn plan_residues(table: &[u8; 256], source: &[u8], word: Word, p: Span) -> EditPlan
     requires { ⌜ IsTable (now table) ⌝ }
     ensures { λ r. ⌜ r ≡ planResidues (now (source .entry)) word p ⌝ }
 {
-    rows::row_if(
+    plan_edits::edit_if(
         residue::is_residues(table, parts::part_of(source, p)),
-        rows::word_row(word, p),
+        plan_edits::word_edit(word, p),
     )
 }
 
 // The row of the shortest text of an edit; none where no text reads as it.
-pub fn plan_protein_edit(table: &[u8; 256], source: &[u8], e: ProteinEdit) -> RowPlan
+pub fn plan_protein_edit(table: &[u8; 256], source: &[u8], e: ProteinEdit) -> EditPlan
     requires { ⌜ IsTable (now table) ⌝ }
     ensures { λ r. ⌜ r ≡ planProteinEdit (now (source .entry)) e ⌝ }
 {
@@ -190,8 +196,8 @@ pub fn plan_protein_edit(table: &[u8; 256], source: &[u8], e: ProteinEdit) -> Ro
         ProteinEdit::Subst(p) => plan_subst(table, source, p),
         ProteinEdit::DelIns(p) => plan_residues(table, source, Word::DelIns, p),
         ProteinEdit::Ins(p) => plan_residues(table, source, Word::Ins, p),
-        ProteinEdit::Del => RowPlan::Text(rows::word_alone(Word::Del)),
-        ProteinEdit::Dup => RowPlan::Text(rows::word_alone(Word::Dup)),
-        ProteinEdit::Ident => RowPlan::Text(rows::word_alone(Word::Equal)),
+        ProteinEdit::Del => EditPlan::Text(plan_edits::word_alone(Word::Del)),
+        ProteinEdit::Dup => EditPlan::Text(plan_edits::word_alone(Word::Dup)),
+        ProteinEdit::Ident => EditPlan::Text(plan_edits::word_alone(Word::Equal)),
     }
 }

@@ -15,13 +15,13 @@ use Rattle.record.specs.declared.Body.the-variants as Bo
 use Rattle.record.specs.declared.HgvsVariant.{HgvsVariant}
 use Rattle.record.specs.declared.Wording.{Wording}
 use Rattle.grammar.specs.Contents.{headerContent}
-use Rattle.headers.specs.Canonical.{canonHeader}
+use Rattle.lang_headers.specs.Canonical.{canonHeader}
 use Rattle.any_body.specs.declared.AnyBody.{AnyBody}
 use Rattle.any_body.specs.declared.AnyBody.the-variants.{Nucleotide, Protein}
 use Rattle.any_body.specs.AnyBodies.{anyBody}
-use Rattle.emit_piece.specs.declared.Mark.the-variants.{Nothing, Byte}
+use Rattle.emit_piece.specs.declared.OneByte.the-variants.{Nothing, Byte}
 use Rattle.emit_piece.specs.Texts.{noSpan}
-use Rattle.draft.specs.declared.Heading.{Heading}
+use Rattle.emit_draft.specs.declared.Heading.{Heading}
 use Rattle.plan_header.specs.HeaderText.{isSome}
 use Rattle.plan_na_body.specs.declared.BodyPlan.{BodyPlan}
 use Rattle.plan_na_body.specs.declared.BodyPlan.the-variants as Bodies

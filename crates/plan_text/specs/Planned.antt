@@ -20,23 +20,23 @@ use Rattle.record.specs.declared.Wording.{Wording}
 use Rattle.record.specs.declared.Wording.the-variants.{Shortest, NoRef}
 use Rattle.grammar.specs.Spans.{part, optionalPart}
 use Rattle.grammar.specs.Shapes.{Both.both}
-use Rattle.grammar.specs.Header.{Header, printGene, printHeader, printKind}
-use Rattle.grammar.specs.Bodies.{Body, printBody, printProteinBody}
+use Rattle.grammar.specs.Header.{HeaderTree, printGene, printHeader, printKind}
+use Rattle.grammar.specs.Bodies.{BodyTree, printBody, printProteinBody}
 use Rattle.grammar.specs.Texts.{Text, Text.text, print, allLetters}
 use Rattle.grammar.specs.Values.{HeaderV, BodyV, Value.value}
 use Rattle.grammar.specs.Contents.{locationContent, muNaEditContent, protBodyContent, bodyContent, headerContent, content, spansInside}
 use Rattle.lang.specs.Canon.{mapO, map-some, bothO, if-same}
-use Rattle.na_edits.specs.Alphabet.{alphabets}
-use Rattle.headers.specs.Canonical.{canonHeader}
+use Rattle.lang_na_edits.specs.Alphabet.{alphabets}
+use Rattle.lang_headers.specs.Canonical.{canonHeader}
 use Rattle.promise.specs.Outcome.{limit}
 use Rattle.promise.specs.Writing.{Sound, Unsound}
-use Rattle.canon.specs.ProteinBodyCanon.{canonProteinBody}
-use Rattle.canon.specs.TextCanon.{text-some}
-use Rattle.canon.specs.Wording.{Wanted, wordedBody, wordedText, text-parts, worded-some, worded-none}
-use Rattle.emit_piece.specs.Laws.{no-part}
-use Rattle.draft.specs.declared.Heading.{Heading}
-use Rattle.draft.specs.declared.Draft.{Draft}
-use Rattle.draft.specs.Texts.{headingText, bodyText, draftText}
+use Rattle.lang_canon.specs.ProteinBodyCanon.{canonProteinBody}
+use Rattle.lang_canon.specs.TextCanon.{text-some}
+use Rattle.lang_canon.specs.Wording.{Wanted, wordedBody, wordedText, text-parts, worded-some, worded-none}
+use Rattle.emit_piece.specs.PartLengths.{no-part}
+use Rattle.emit_draft.specs.declared.Heading.{Heading}
+use Rattle.emit_draft.specs.declared.Draft.{Draft}
+use Rattle.emit_draft.specs.Texts.{headingText, bodyText, draftText}
 use Rattle.plan_header.specs.HeaderText.{isSome, header-text}
 use Rattle.plan_na_body.specs.declared.BodyPlan.{BodyPlan}
 use Rattle.plan_na_body.specs.declared.BodyPlan.the-variants as Bodies
@@ -98,7 +98,7 @@ module _ (s : List ℕ) where
   planText (Planned d) = some (draftText s d)
 
   module _ (k : Kind) (a : List ℕ) (gene : Option (List ℕ)) (heading : Heading) where
-    whole : (o : Option Header) (p : BodyPlan) (u : Option (Body k)) → mapO printHeader o ≡ cond (isSome o) (some (a ++ printGene gene)) none → headingText s heading ≡ (a ++ printGene gene) ++ printKind k → BodyPlans.planText s p ≡ mapO (printBody k) u
+    whole : (o : Option HeaderTree) (p : BodyPlan) (u : Option (BodyTree k)) → mapO printHeader o ≡ cond (isSome o) (some (a ++ printGene gene)) none → headingText s heading ≡ (a ++ printGene gene) ++ printKind k → BodyPlans.planText s p ≡ mapO (printBody k) u
         → planText (cond (isSome o) (draftedPlan heading p) NoText) ≡ mapO print (bothO (λ x y. text x k y) o u)
     unfolding draftText
     whole none p u g i j = refl

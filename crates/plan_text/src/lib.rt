@@ -1,8 +1,8 @@
 // What is to be written for a whole record, where it has a text: header, kind and body.
 use any_body::AnyBody;
-use draft::Draft;
-use draft::Heading;
-use emit_piece::Mark;
+use emit_draft::Draft;
+use emit_draft::Heading;
+use emit_piece::OneByte;
 use plan_na_body::BodyPlan;
 use record::Body;
 use record::Header;
@@ -42,16 +42,16 @@ fn heading(h: Header, kind: Kind) -> Heading
     match gene_symbol {
         Part::Absent => Heading {
             accession,
-            opening: Mark::Nothing,
-            gene: rows::NO_SPAN,
-            closing: Mark::Nothing,
+            opening: OneByte::Nothing,
+            gene: plan_edits::NO_SPAN,
+            closing: OneByte::Nothing,
             kind,
         },
         Part::Present(gene) => Heading {
             accession,
-            opening: Mark::Byte(b'('),
+            opening: OneByte::Byte(b'('),
             gene,
-            closing: Mark::Byte(b')'),
+            closing: OneByte::Byte(b')'),
             kind,
         },
     }

@@ -7,9 +7,9 @@ ghost use mathlib.Core.Path.{_≡_};
 ghost use Prim.Native.Nat.{_+_, _≤_};
 ghost use lib.ListN.{length};
 ghost use Rattle.alphabet.specs.Cells.{IsTable};
-ghost use Rattle.headers.specs.Parse.{parseGene, parseHeader};
-ghost use Rattle.headers.specs.Kinds.{parseKind};
-ghost use Rattle.read_header.specs.Answer.{geneLength, headerAnswer, kindOf, kindAnswer};
+ghost use Rattle.lang_headers.specs.Parse.{parseGene, parseHeader};
+ghost use Rattle.lang_headers.specs.Kinds.{parseKind};
+ghost use Rattle.read_header.specs.HeaderAnswers.{geneLength, headerAnswer, kindOf, kindAnswer};
 
 // The header at the front of a text, and the length of its text.
 pub enum HeaderRead {
@@ -46,7 +46,7 @@ pub fn header_at(table: &[u8; 256], s: &[u8], at: usize) -> HeaderRead
     if n == 0 {
         return HeaderRead::Nothing;
     }
-    let name = scan::span(at, n);
+    let name = read_scan::span(at, n);
     let g = gene_symbol(table, &s[n..]);
     if g == 0 {
         return HeaderRead::Found(
@@ -60,7 +60,7 @@ pub fn header_at(table: &[u8; 256], s: &[u8], at: usize) -> HeaderRead
     HeaderRead::Found(
         Header {
             accession: name,
-            gene_symbol: Part::Present(scan::span(at + n + 1, g)),
+            gene_symbol: Part::Present(read_scan::span(at + n + 1, g)),
         },
         n + 1 + g + 1,
     )

@@ -12,9 +12,9 @@ use lib.ListN.{length, take, drop, length-append, length-drop}
 use Rattle.texts.specs.Ascii.{ascii}
 use Rattle.texts.specs.Slices.{tail-part, tail-at, tail-beyond}
 use Rattle.texts.specs.Words.{starts, starts-length}
-use Rattle.number.specs.declared.Sign.the-variants.{Plain}
-use Rattle.number.specs.Digits.{val}
-use Rattle.number.specs.Signs.{or-zero-fits}
+use Rattle.numerals.specs.declared.Sign.the-variants.{Plain}
+use Rattle.numerals.specs.Digits.{val}
+use Rattle.numerals.specs.Signs.{or-zero-fits}
 use Rattle.record.specs.declared.Kind.{Kind}
 use Rattle.record.specs.declared.Kind.the-variants.{Cds, Genome, Mt, Tx, Prot, Rna}
 use Rattle.grammar.specs.Positions as Tree
@@ -25,21 +25,21 @@ use Rattle.grammar.specs.Numbers.{positionNumbers}
 use Rattle.lang.specs.Lang.{within}
 use Rattle.lang.specs.IntervalLang.{parseInterval}
 use Rattle.lang.specs.MuReading as Reading
-use Rattle.scan.specs.Answers.{answered}
-use Rattle.scan.specs.declared.Faults.{Faults}
-use Rattle.scan.specs.Faults.{faults, first, settledIf, faults-append, settled-if}
-use Rattle.location.specs.Parse.{parsePosition}
-use Rattle.location.specs.Languages.{posLang, endsLang}
-use Rattle.location.specs.Equal.{eqℤ, machine-equal}
-use Rattle.location.specs.Settled.{settledPosition, numberIn}
+use Rattle.read_scan.specs.Accounts.{answered}
+use Rattle.read_scan.specs.declared.Faults.{Faults}
+use Rattle.read_scan.specs.Faults.{faults, first, settledIf, faults-append, settled-if}
+use Rattle.lang_locations.specs.Parse.{parsePosition}
+use Rattle.lang_locations.specs.Languages.{posLang, endsLang}
+use Rattle.lang_locations.specs.Equal.{eqℤ, machine-equal}
+use Rattle.lang_locations.specs.Settled.{settledPosition, numberIn}
 use Rattle.any_location.specs.declared.Position.{Position}
 use Rattle.read_location.specs.declared.PositionRead.the-variants as PR
 use Rattle.read_location.specs.declared.LocationRead.the-variants.{Nothing, Found}
 use Rattle.read_location.specs.Told.{PositionTold, position-unread}
 use Rattle.any_location.specs.OfTree.{positionOf, intervalOf}
-use Rattle.read_location.specs.Answer.{positionAnswer, intervalAnswer}
+use Rattle.read_location.specs.LocationAnswers.{positionAnswer, intervalAnswer}
 
-number-in : (k : Kind) (at : ℕ) (t : Tree.Position k) → positionOf k at t .number ≡ numberIn k t
+number-in : (k : Kind) (at : ℕ) (t : Tree.PositionTree k) → positionOf k at t .number ≡ numberIn k t
 number-in Cds at (based m ds o) = refl
 number-in Genome at (known ds) = refl
 number-in Genome at unknown = refl
@@ -49,7 +49,7 @@ number-in Tx at (based m ds o) = refl
 number-in Prot at (residual r ds) = refl
 number-in Rna at (based m ds o) = refl
 
-number-fits : (k : Kind) (t : Tree.Position k) → SFits w32 (numberIn k t)
+number-fits : (k : Kind) (t : Tree.PositionTree k) → SFits w32 (numberIn k t)
 number-fits Cds (based m ds o) = or-zero-fits (signOf m) (val ds)
 number-fits Genome (known ds) = or-zero-fits Plain (val ds)
 number-fits Genome unknown = record { sfits = omega arith }
@@ -65,7 +65,7 @@ module _ (k : Kind) (at : ℕ) (s : List ℕ) where
   interval-none e = rw (position-unread k at s e)
 
   -- where t stands first
-  module _ (t : Tree.Position k) (q : parsePosition k s ≡ some t) where
+  module _ (t : Tree.PositionTree k) (q : parsePosition k s ≡ some t) where
     one-is : starts (ascii "_") (drop (length (printPosition k t)) s) ≡ false
         → Found (intervalOf k true at (one t)) (length (printPosition k t)) (faults (positionNumbers k at t) (settledPosition k t)) ≡ intervalAnswer k at (endsLang k .parse s)
     unfolding parseInterval answered
@@ -76,7 +76,7 @@ module _ (k : Kind) (at : ℕ) (s : List ℕ) where
       unfolding parseInterval answered
       half-is h = rw (q, j, h)
 
-      two-is : (u : Tree.Position k) → parsePosition k (drop 1 (drop (length (printPosition k t)) s)) ≡ some u
+      two-is : (u : Tree.PositionTree k) → parsePosition k (drop 1 (drop (length (printPosition k t)) s)) ≡ some u
           → Found (intervalOf k true at (two t u)) (length (printPosition k t) + 1 + length (printPosition k u)) (settledIf (not (eqℤ (numberIn k t) (numberIn k u))) (first (faults (positionNumbers k at t) (settledPosition k t)) (faults (positionNumbers k (at + length (printPosition k t) + 1) u) (settledPosition k u)))) ≡ intervalAnswer k at (endsLang k .parse s)
       unfolding parseInterval answered
       two-is u h =

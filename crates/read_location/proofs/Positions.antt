@@ -17,35 +17,35 @@ use Rattle.texts.specs.Runs.{run, front, behind, front-length}
 use Rattle.texts.specs.Slices.{tail-part}
 use Rattle.texts.specs.Words.{starts}
 use Rattle.alphabet.specs.Letters.{digit}
-use Rattle.number.specs.declared.Sign.{Sign}
-use Rattle.number.specs.declared.Sign.the-variants.{Plain, Minus}
-use Rattle.number.specs.declared.Number.{Number}
-use Rattle.number.specs.Reading.{numberAt}
+use Rattle.numerals.specs.declared.Sign.{Sign}
+use Rattle.numerals.specs.declared.Sign.the-variants.{Plain, Minus}
+use Rattle.numerals.specs.declared.Number.{Number}
+use Rattle.numerals.specs.Reading.{numberAt}
 use Rattle.residue.specs.Reading.{residueLen}
-use Rattle.residue.specs.Laws.{residue-le}
+use Rattle.residue.specs.ResiduesRead.{residue-le}
 use Rattle.record.specs.declared.Span.{Span}
 use Rattle.record.specs.declared.Offset.the-variants.{Absent, By}
 use Rattle.record.specs.declared.Kind.{Kind}
 use Rattle.record.specs.declared.Kind.the-variants.{Cds, Genome, Prot}
 use Rattle.grammar.specs.Positions as Tree
-use Rattle.grammar.specs.Positions.{Mark.bare, Mark.plus, Mark.minus, Mark.star, Offset, Offset.absent, Offset.ahead, Offset.back, Based.based, Genomic.known, Genomic.unknown, Residual.residual, printMark, printOffset}
+use Rattle.grammar.specs.Positions.{Mark.bare, Mark.plus, Mark.minus, Mark.star, OffsetTree, OffsetTree.absent, OffsetTree.ahead, OffsetTree.back, Based.based, Genomic.known, Genomic.unknown, Residual.residual, printMark, printOffset}
 use Rattle.grammar.specs.Meaning.{number, signOf}
 use Rattle.grammar.specs.Records.{span}
 use Rattle.grammar.specs.Numbers.{Numeral.numeral, offsetNumbers}
-use Rattle.scan.specs.Answers.{answered}
-use Rattle.scan.specs.declared.Faults.{Faults}
-use Rattle.scan.specs.Reading.{number-run, number-len, number-le, number-value, number-faults}
-use Rattle.scan.specs.Faults.{faults, none as noFault, ofNumber, first, settledIf, faults-nil, faults-append, settled-only}
-use Rattle.location.specs.Parse.{onDigits, parseMark, parseOffset, parseBased, parseGenomic, parseResidual}
-use Rattle.location.specs.Sound.{digits-none, digits-some, mark-split, offset-sound}
-use Rattle.location.specs.Settled.{plainMark}
+use Rattle.read_scan.specs.Accounts.{answered}
+use Rattle.read_scan.specs.declared.Faults.{Faults}
+use Rattle.read_scan.specs.Reading.{number-run, number-len, number-le, number-value, number-faults}
+use Rattle.read_scan.specs.Faults.{faults, none as noFault, ofNumber, first, settledIf, faults-nil, faults-append, settled-only}
+use Rattle.lang_locations.specs.Parse.{onDigits, parseMark, parseOffset, parseBased, parseGenomic, parseResidual}
+use Rattle.lang_locations.specs.Sound.{digits-none, digits-some, mark-split, offset-sound}
+use Rattle.lang_locations.specs.Settled.{plainMark}
 use Rattle.any_location.specs.declared.Position.{Position}
 use Rattle.read_location.specs.declared.PositionRead.the-variants.{Nothing, Found}
-use Rattle.read_location.specs.declared.Mark.{Mark}
+use Rattle.read_location.specs.declared.MarkRead.{MarkRead}
 use Rattle.read_location.specs.declared.OffsetRead.{OffsetRead}
 use Rattle.read_location.specs.Forms.{isBarred, parseBasedFor}
 use Rattle.any_location.specs.OfTree.{plainOf, basedOf}
-use Rattle.read_location.specs.Answer.{positionAnswer, markOf, offsetAnswer, offsetBehind}
+use Rattle.read_location.specs.LocationAnswers.{positionAnswer, markOf, offsetAnswer, offsetBehind}
 
 -- ---- marks
 module _ (s : List ℕ) where
@@ -87,7 +87,7 @@ module _ (at : ℕ) (sign : Sign) (s : List ℕ) (n : Number) (e : n ≡ numberA
       rw (ne-eqb (run digit s) 0 (λ q. z (l ∙ q)), number-value sign s n e, l, ef, number-faults sign s n e (at + 1))
 
 -- what stands behind the sign, as an offset
-behind-by : (at : ℕ) (sign : Sign) (by : List ℕ → Offset) (s : List ℕ)
+behind-by : (at : ℕ) (sign : Sign) (by : List ℕ → OffsetTree) (s : List ℕ)
     → ((ds : List ℕ) → offsetAnswer at (by ds) ≡ record { offset = By (number sign ds); len = suc (length ds); faults = faults (numeral (at + 1) sign ds ∷ []) true })
     → offsetBehind at sign s ≡ offsetAnswer at (onDigits absent by s)
 unfolding offsetBehind onDigits
@@ -115,7 +115,7 @@ module _ (at : ℕ) (s : List ℕ) where
   offset-le = omega (arith, simp length-append at (ap length (offset-sound s .text)))
 
 -- ---- c, n, r
-based-found : (at : ℕ) (m : Tree.Mark) (ds : List ℕ) (o : Offset)
+based-found : (at : ℕ) (m : Tree.Mark) (ds : List ℕ) (o : OffsetTree)
     → Found (basedOf (based m ds o)) (length (printMark m) + length ds + length (printOffset o)) (settledIf (plainMark m) (first (faults (numeral (at + length (printMark m)) (signOf m) ds ∷ []) true) (faults (offsetNumbers (at + length (printMark m) + length ds) o) true)))
     ≡ positionAnswer Cds at (some (based m ds o))
 unfolding answered
@@ -126,9 +126,9 @@ based-found at m ds o =
     rw (l, ← faults-append ms ns true true, settled-only (plainMark m) (ms ++ ns))
 
 -- the mark m, the number n behind it, and the offset o behind that
-module _ (at : ℕ) (s : List ℕ) (m : Mark) (em : m ≡ markOf (parseMark s)) where
+module _ (at : ℕ) (s : List ℕ) (m : MarkRead) (em : m ≡ markOf (parseMark s)) where
   pub based-mark : m .len ≤ length s
-  based-mark = omega (arith, mark-le s, ap (λ (x : Mark). x .len) em)
+  based-mark = omega (arith, mark-le s, ap (λ (x : MarkRead). x .len) em)
 
   module _ (n : Number) (en : n ≡ numberAt (m .sign) (take (length s - m .len) (drop (m .len) s))) where
     -- what is behind the mark
@@ -141,7 +141,7 @@ module _ (at : ℕ) (s : List ℕ) (m : Mark) (em : m ≡ markOf (parseMark s)) 
 
     pub based-number : m .len + n .len ≤ length s
     unfolding y
-    based-number = omega (arith, based-mark, number-le (signOf (parseMark s)) y n read, length-drop (length (printMark (parseMark s))) s, ap (λ (x : Mark). x .len) em)
+    based-number = omega (arith, based-mark, number-le (signOf (parseMark s)) y n read, length-drop (length (printMark (parseMark s))) s, ap (λ (x : MarkRead). x .len) em)
 
     pub based-none : n .len ≡ 0 → Nothing ≡ positionAnswer Cds at (parseBased s)
     unfolding y parseBased answered

@@ -1,3 +1,3 @@
-pub mod Answer
+pub mod LocationAnswers
 pub mod Forms
 pub mod Told

@@ -9,18 +9,18 @@ use lib.ListN.{length}
 use Rattle.record.specs.declared.Kind.{Kind}
 use Rattle.grammar.specs.Numbers.{endsNumbers}
 use Rattle.lang.specs.Lang.{within}
-use Rattle.scan.specs.declared.Faults.{Faults}
-use Rattle.scan.specs.Answers.{Cases, Told, told, unread}
-use Rattle.scan.specs.MuAnswers.{Bracketed}
-use Rattle.location.specs.Settled.{settledEnds}
-use Rattle.location.specs.Parse.{parsePosition}
-use Rattle.location.specs.Languages.{endsLang, locationLang}
+use Rattle.read_scan.specs.declared.Faults.{Faults}
+use Rattle.read_scan.specs.Accounts.{Cases, Told, told, unread}
+use Rattle.read_scan.specs.MuAccounts.{Bracketed}
+use Rattle.lang_locations.specs.Settled.{settledEnds}
+use Rattle.lang_locations.specs.Parse.{parsePosition}
+use Rattle.lang_locations.specs.Languages.{endsLang, locationLang}
 use Rattle.any_location.specs.declared.Position.{Position}
 use Rattle.read_location.specs.declared.PositionRead.the-variants as PR
 use Rattle.any_location.specs.declared.Location.{Location}
 use Rattle.any_location.specs.OfTree.{intervalOf, locationOf, uncertainOf, uncertain-is}
 use Rattle.read_location.specs.declared.LocationRead.the-variants.{Nothing, Found}
-use Rattle.read_location.specs.Answer.{positions, positionAnswer, intervals, intervalAnswer, locations, locationAnswer}
+use Rattle.read_location.specs.LocationAnswers.{positions, positionAnswer, intervals, intervalAnswer, locations, locationAnswer}
 
 pub position-cases : Cases PR.Nothing PR.Found
 position-cases = record { apart = λ e. let y : _≡_ {A = ℕ} 0 1 = cc in omega arith; same = λ e. (cc, cc, cc) }

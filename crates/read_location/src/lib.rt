@@ -1,23 +1,23 @@
 // Reading positions, intervals and locations at the front of a text.
 use any_location::Location;
 use any_location::Position;
-use number::Sign;
+use numerals::Sign;
+use read_scan::Ending;
+use read_scan::Faults;
 use record::CdsFrom;
 use record::Kind;
 use record::Offset;
 use record::Span;
-use scan::Ending;
-use scan::Faults;
 ghost use mathlib.Core.Path.{_≡_};
 ghost use Prim.Native.Nat.{_+_, _≤_};
 ghost use lib.ListN.{length};
 ghost use Rattle.alphabet.specs.Cells.{IsTable};
 ghost use Rattle.record.specs.declared.Kind.the-variants.{Cds, Genome, Mt, Tx, Prot, Rna};
-ghost use Rattle.grammar.specs.Positions.{Offset.absent};
-ghost use Rattle.location.specs.Parse.{parseMark, parseOffset, parseBased, parseGenomic, parseResidual, parsePosition};
-ghost use Rattle.location.specs.Languages.{endsLang, locationLang};
+ghost use Rattle.grammar.specs.Positions.{OffsetTree.absent};
+ghost use Rattle.lang_locations.specs.Parse.{parseMark, parseOffset, parseBased, parseGenomic, parseResidual, parsePosition};
+ghost use Rattle.lang_locations.specs.Languages.{endsLang, locationLang};
 ghost use Rattle.read_location.specs.Forms.{isStarred, isBarred, parseBasedFor, formOf};
-ghost use Rattle.read_location.specs.Answer.{markOf, offsetAnswer, offsetBehind, positionAnswer, intervalAnswer, locationAnswer};
+ghost use Rattle.read_location.specs.LocationAnswers.{markOf, offsetAnswer, offsetBehind, positionAnswer, intervalAnswer, locationAnswer};
 
 // Each answer has the length of what was found, and what is wrong with its numbers.
 enum PositionRead {
@@ -31,7 +31,7 @@ pub enum LocationRead {
 }
 
 // What stands before the digits of a base: how long it is, what it says, and whether it is plainly spelled.
-struct Mark {
+struct MarkRead {
     len: usize,
     sign: Sign,
     cds_from: CdsFrom,
@@ -51,11 +51,11 @@ struct OffsetRead {
     faults: Faults,
 }
 
-fn mark_at(s: &[u8]) -> Mark
+fn mark_at(s: &[u8]) -> MarkRead
     ensures { λ r. ⌜ r ≡ markOf (parseMark (now (s .entry))) ⌝ }
 {
     if words::begins(s, b"+") {
-        return Mark {
+        return MarkRead {
             len: 1,
             sign: Sign::Plain,
             cds_from: CdsFrom::Start,
@@ -63,7 +63,7 @@ fn mark_at(s: &[u8]) -> Mark
         };
     }
     if words::begins(s, b"-") {
-        return Mark {
+        return MarkRead {
             len: 1,
             sign: Sign::Minus,
             cds_from: CdsFrom::Start,
@@ -71,14 +71,14 @@ fn mark_at(s: &[u8]) -> Mark
         };
     }
     if words::begins(s, b"*") {
-        return Mark {
+        return MarkRead {
             len: 1,
             sign: Sign::Plain,
             cds_from: CdsFrom::End,
             plain: true,
         };
     }
-    Mark {
+    MarkRead {
         len: 0,
         sign: Sign::Plain,
         cds_from: CdsFrom::Start,
@@ -92,7 +92,7 @@ fn no_offset(at: usize) -> OffsetRead
     OffsetRead {
         offset: Offset::Absent,
         len: 0,
-        faults: scan::no_faults(),
+        faults: read_scan::no_faults(),
     }
 }
 
@@ -101,14 +101,14 @@ fn offset_behind(table: &[u8; 256], s: &[u8], at: usize, sign: Sign) -> OffsetRe
     requires { ⌜ (at + 1 + length (now s) ≤ 4096) × IsTable (now table) ⌝ }
     ensures { λ r. ⌜ r ≡ offsetBehind at sign (now (s .entry)) ⌝ }
 {
-    let n = number::number_at(table, s, sign);
+    let n = numerals::number_at(table, s, sign);
     if n.len == 0 {
         return no_offset(at);
     }
     OffsetRead {
         offset: Offset::By(n.value),
         len: 1 + n.len,
-        faults: scan::faults_of(at + 1, n),
+        faults: read_scan::faults_of(at + 1, n),
     }
 }
 
@@ -133,7 +133,7 @@ fn cds_pos(table: &[u8; 256], s: &[u8], at: usize) -> PositionRead
     let m = mark_at(s);
     let k = m.len;
     let sign = m.sign;
-    let n = number::number_at(table, &s[k..], sign);
+    let n = numerals::number_at(table, &s[k..], sign);
     if n.len == 0 {
         return PositionRead::Nothing;
     }
@@ -144,14 +144,17 @@ fn cds_pos(table: &[u8; 256], s: &[u8], at: usize) -> PositionRead
     let later = o.faults;
     PositionRead::Found(
         Position {
-            aa: scan::span(0, 0),
+            aa: read_scan::span(0, 0),
             number: n.value,
             unknown: false,
             cds_from,
             offset,
         },
         e + o.len,
-        scan::settled_if(m.plain, scan::leftmost(scan::faults_of(at + k, n), later)),
+        read_scan::settled_if(
+            m.plain,
+            read_scan::leftmost(read_scan::faults_of(at + k, n), later),
+        ),
     )
 }
 
@@ -194,21 +197,21 @@ fn genome_pos(table: &[u8; 256], s: &[u8], at: usize) -> PositionRead
     requires { ⌜ (at + length (now s) ≤ 4096) × IsTable (now table) ⌝ }
     ensures { λ r. ⌜ r ≡ positionAnswer Genome at (parseGenomic (now (s .entry))) ⌝ }
 {
-    let n = number::number_at(table, s, Sign::Plain);
+    let n = numerals::number_at(table, s, Sign::Plain);
     if n.len == 0 {
         if words::begins(s, b"?") {
             return PositionRead::Found(
-                any_location::plain(scan::span(0, 0), 0, true),
+                any_location::plain(read_scan::span(0, 0), 0, true),
                 1,
-                scan::no_faults(),
+                read_scan::no_faults(),
             );
         }
         return PositionRead::Nothing;
     }
     PositionRead::Found(
-        any_location::plain(scan::span(0, 0), n.value, false),
+        any_location::plain(read_scan::span(0, 0), n.value, false),
         n.len,
-        scan::faults_of(at, n),
+        read_scan::faults_of(at, n),
     )
 }
 
@@ -221,14 +224,14 @@ fn prot_pos(table: &[u8; 256], s: &[u8], at: usize) -> PositionRead
     if k == 0 {
         return PositionRead::Nothing;
     }
-    let n = number::number_at(table, &s[k..], Sign::Plain);
+    let n = numerals::number_at(table, &s[k..], Sign::Plain);
     if n.len == 0 {
         return PositionRead::Nothing;
     }
     PositionRead::Found(
-        any_location::plain(scan::span(at, k), n.value, false),
+        any_location::plain(read_scan::span(at, k), n.value, false),
         k + n.len,
-        scan::faults_of(at + k, n),
+        read_scan::faults_of(at + k, n),
     )
 }
 
@@ -286,7 +289,10 @@ pub fn interval_at(table: &[u8; 256], kind: Kind, s: &[u8], at: usize) -> Locati
             end,
         },
         k + m,
-        scan::settled_if(start.number != end.number, scan::leftmost(faults, later)),
+        read_scan::settled_if(
+            start.number != end.number,
+            read_scan::leftmost(faults, later),
+        ),
     )
 }
 
@@ -295,11 +301,11 @@ pub fn location_at(table: &[u8; 256], kind: Kind, s: &[u8], at: usize) -> Locati
     requires { ⌜ (at + length (now s) ≤ 4096) × IsTable (now table) ⌝ }
     ensures { λ r. ⌜ r ≡ locationAnswer kind at (locationLang kind .parse (now (s .entry))) ⌝ }
 {
-    let a = scan::opening(s);
+    let a = read_scan::opening(s);
     let LocationRead::Found(l, n, faults) = interval_at(table, kind, &s[a..], at + a) else {
         return LocationRead::Nothing;
     };
-    match scan::closing(s, a, n) {
+    match read_scan::closing(s, a, n) {
         Ending::Bare => LocationRead::Found(l, n, faults),
         Ending::Closed(k) => LocationRead::Found(any_location::uncertain(l), k, faults),
         Ending::Missing => LocationRead::Nothing,

@@ -2,6 +2,7 @@
 use any_location::Location;
 use read_location::LocationRead;
 use read_na_edit::MuNaEditRead;
+use read_scan::Faults;
 use record::Body;
 use record::CdsLocEdit;
 use record::GenomeLocEdit;
@@ -11,16 +12,15 @@ use record::MuNaEdit;
 use record::ProtLocEdit;
 use record::RnaLocEdit;
 use record::TxLocEdit;
-use scan::Faults;
 ghost use mathlib.Core.Path.{_≡_};
 ghost use Prim.Native.Nat.{_+_, _≤_};
 ghost use lib.ListN.{length};
 ghost use Rattle.alphabet.specs.Cells.{IsTable};
 ghost use Rattle.alphabet.specs.Letters.{nucleotide};
 ghost use Rattle.lang.specs.Whole.{whole};
-ghost use Rattle.na_edits.specs.Alphabet.{nucleotides};
-ghost use Rattle.bodies.specs.NaBodies.{naBodyLang};
-ghost use Rattle.read_na_body.specs.Answer.{locEdit, naAnswer};
+ghost use Rattle.lang_na_edits.specs.Alphabet.{nucleotides};
+ghost use Rattle.lang_bodies.specs.NaBodies.{naBodyLang};
+ghost use Rattle.read_na_body.specs.NaBodyAnswers.{locEdit, naAnswer};
 
 // A body that stands up to the end of the text, and what is wrong with its numbers.
 pub enum BodyRead {
@@ -71,5 +71,5 @@ pub fn na_body(table: &[u8; 256], kind: Kind, s: &[u8], at: usize) -> BodyRead
     if n + m != s.len() {
         return BodyRead::Nothing;
     }
-    BodyRead::Found(loc_edit(kind, l, edit), scan::leftmost(faults, later))
+    BodyRead::Found(loc_edit(kind, l, edit), read_scan::leftmost(faults, later))
 }

@@ -12,25 +12,25 @@ use lib.IntN.{ℤ}
 use lib.ListN.{length, length-append}
 use Rattle.texts.specs.Runs.{front}
 use Rattle.alphabet.specs.Letters.{digit}
-use Rattle.number.specs.Reading.{numberAt}
-use Rattle.number.specs.declared.Number.{Number}
-use Rattle.number.specs.declared.Sign.the-variants.{Plain}
+use Rattle.numerals.specs.Reading.{numberAt}
+use Rattle.numerals.specs.declared.Number.{Number}
+use Rattle.numerals.specs.declared.Sign.the-variants.{Plain}
 use Rattle.record.specs.declared.Span.{Span}
 use Rattle.record.specs.declared.NaEdit as D
 use Rattle.record.specs.declared.NaEdit.the-variants.{RefAlt, NumAlt}
-use Rattle.grammar.specs.NucleotideEdits.{NaEdit, NaEdit.equal, NaEdit.swap, NaEdit.delIns, NaEdit.delNumIns, printNaEdit}
+use Rattle.grammar.specs.NucleotideEdits.{NaEditTree, NaEditTree.equal, NaEditTree.swap, NaEditTree.delIns, NaEditTree.delNumIns, printNaEdit}
 use Rattle.grammar.specs.Meaning.{number}
 use Rattle.grammar.specs.Records.{span, spanOf, naEditAt}
 use Rattle.grammar.specs.Numbers.{Numeral.numeral, naEditNumbers}
-use Rattle.scan.specs.Faults.{faults, none, ofNumber, settledIf, settled-none}
-use Rattle.scan.specs.Reading.{number-len, number-value, number-faults}
-use Rattle.scan.specs.declared.Faults.{Faults}
-use Rattle.na_edits.specs.Settled.{settledNaEdit}
+use Rattle.read_scan.specs.Faults.{faults, none, ofNumber, settledIf, settled-none}
+use Rattle.read_scan.specs.Reading.{number-len, number-value, number-faults}
+use Rattle.read_scan.specs.declared.Faults.{Faults}
+use Rattle.lang_na_edits.specs.Settled.{settledNaEdit}
 use Rattle.read_na_edit.specs.declared.NaEditRead.the-variants.{Found}
-use Rattle.scan.specs.Answers.{answered}
-use Rattle.read_na_edit.specs.Answer.{naEditAnswer}
+use Rattle.read_scan.specs.Accounts.{answered}
+use Rattle.read_na_edit.specs.NaEditAnswers.{naEditAnswer}
 
-module _ (k : ℕ) (t : NaEdit) (r : D.NaEdit) (n : ℕ) (f : Faults) (er : r ≡ naEditAt k t) (en : n ≡ length (printNaEdit t)) where
+module _ (k : ℕ) (t : NaEditTree) (r : D.NaEdit) (n : ℕ) (f : Faults) (er : r ≡ naEditAt k t) (en : n ≡ length (printNaEdit t)) where
   found : f ≡ faults (naEditNumbers k t) (settledNaEdit t) → Found r n f ≡ naEditAnswer k (some t)
   unfolding answered
   found ef = rw (er, en, ef)
@@ -49,7 +49,7 @@ module _ (k : ℕ) (f : Faults) (ef : f ≡ none) where
       found-plain k (equal a) (RefAlt p p) (m + 1) f (rw h) (rw length-append (omega arith)) refl refl ef
 
   -- m letters a behind a word of three letters, and their span p
-  pub found-word : (m : ℕ) (a : List ℕ) (p : Span) → m ≡ length a → p ≡ span (k + 3) m → (made : Span → D.NaEdit) (t : NaEdit) (w : List ℕ) → length w ≡ 3 → printNaEdit t ≡ w ++ a → naEditAt k t ≡ made (spanOf (k + 3) a) → naEditNumbers k t ≡ [] → settledNaEdit t ≡ true → Found (made p) (3 + m) f ≡ naEditAnswer k (some t)
+  pub found-word : (m : ℕ) (a : List ℕ) (p : Span) → m ≡ length a → p ≡ span (k + 3) m → (made : Span → D.NaEdit) (t : NaEditTree) (w : List ℕ) → length w ≡ 3 → printNaEdit t ≡ w ++ a → naEditAt k t ≡ made (spanOf (k + 3) a) → naEditNumbers k t ≡ [] → settledNaEdit t ≡ true → Found (made p) (3 + m) f ≡ naEditAnswer k (some t)
   found-word m a p em ep made t w l et er en es =
       let h : p ≡ spanOf (k + 3) a = ep ∙ ap (span (k + 3)) em in
       found-plain k t (made p) (3 + m) f (rw (h, er)) (rw (et, length-append, l, em)) en es ef
@@ -71,7 +71,7 @@ module _ (s : List ℕ) (n : Number) (e : n ≡ numberAt Plain s) (k : ℕ) (f :
   faults-are : f ≡ faults (numeral (k + 3) Plain (front digit s) ∷ []) true
   faults-are = ef ∙ number-faults Plain s n e (k + 3)
 
-  pub found-number : (made : ℤ → D.NaEdit) (t : NaEdit) (w : List ℕ) → length w ≡ 3 → printNaEdit t ≡ w ++ front digit s → naEditAt k t ≡ made (number Plain (front digit s)) → naEditNumbers k t ≡ numeral (k + 3) Plain (front digit s) ∷ [] → settledNaEdit t ≡ true → Found (made (toZ w32 (ofZ w32 (n .value)))) (3 + n .len) f ≡ naEditAnswer k (some t)
+  pub found-number : (made : ℤ → D.NaEdit) (t : NaEditTree) (w : List ℕ) → length w ≡ 3 → printNaEdit t ≡ w ++ front digit s → naEditAt k t ≡ made (number Plain (front digit s)) → naEditNumbers k t ≡ numeral (k + 3) Plain (front digit s) ∷ [] → settledNaEdit t ≡ true → Found (made (toZ w32 (ofZ w32 (n .value)))) (3 + n .len) f ≡ naEditAnswer k (some t)
   found-number made t w l et er en es =
       found k t (made (toZ w32 (ofZ w32 (n .value)))) (3 + n .len) f (rw (number-value Plain s n e, er)) (rw (et, length-append, l, number-len Plain s n e)) (rw (en, es) faults-are)
 

@@ -10,16 +10,16 @@ use Rattle.record.specs.declared.MuNaEdit.{MuNaEdit}
 use Rattle.record.specs.declared.MuNaEdit.the-variants.{Certain, Uncertain}
 use Rattle.grammar.specs.Records.{naEditAt, muNaEditAt}
 use Rattle.grammar.specs.Numbers.{naEditNumbers}
-use Rattle.scan.specs.declared.Faults.{Faults}
-use Rattle.scan.specs.Answers.{Cases, Told, told, unread}
-use Rattle.scan.specs.MuAnswers.{Bracketed}
-use Rattle.na_edits.specs.Settled.{settledNaEdit}
-use Rattle.na_edits.specs.Alphabet.{nucleotides}
-use Rattle.na_edits.specs.Sound.{naEditLang}
-use Rattle.na_edits.specs.Brackets.{muNaEditLang}
+use Rattle.read_scan.specs.declared.Faults.{Faults}
+use Rattle.read_scan.specs.Accounts.{Cases, Told, told, unread}
+use Rattle.read_scan.specs.MuAccounts.{Bracketed}
+use Rattle.lang_na_edits.specs.Settled.{settledNaEdit}
+use Rattle.lang_na_edits.specs.Alphabet.{nucleotides}
+use Rattle.lang_na_edits.specs.Sound.{naEditLang}
+use Rattle.lang_na_edits.specs.Brackets.{muNaEditLang}
 use Rattle.read_na_edit.specs.declared.NaEditRead.the-variants as Edits
 use Rattle.read_na_edit.specs.declared.MuNaEditRead.the-variants as Mus
-use Rattle.read_na_edit.specs.Answer.{muNaEdits, muNaEditAnswer}
+use Rattle.read_na_edit.specs.NaEditAnswers.{muNaEdits, muNaEditAnswer}
 
 pub edit-cases : Cases Edits.Nothing Edits.Found
 edit-cases = record { apart = λ e. let y : _≡_ {A = ℕ} 0 1 = cc in omega arith; same = λ e. (cc, cc, cc) }

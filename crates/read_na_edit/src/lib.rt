@@ -1,11 +1,11 @@
 // Reading a nucleotide edit, which is certain, or uncertain when in round brackets.
 use alphabet::Class;
-use number::Number;
-use number::Sign;
+use numerals::Number;
+use numerals::Sign;
+use read_scan::Ending;
+use read_scan::Faults;
 use record::MuNaEdit;
 use record::NaEdit;
-use scan::Ending;
-use scan::Faults;
 ghost use mathlib.Core.Path.{_≡_};
 ghost use mathlib.Core.Option.{some};
 ghost use Prim.Native.Nat.{_+_, _≤_};
@@ -13,13 +13,13 @@ ghost use lib.ListN.{length};
 ghost use Rattle.texts.specs.Runs.{front, behind};
 ghost use Rattle.alphabet.specs.Cells.{IsTable};
 ghost use Rattle.alphabet.specs.Letters.{digit, nucleotide};
-ghost use Rattle.number.specs.declared.Sign.the-variants.{Plain};
-ghost use Rattle.number.specs.Reading.{numberAt};
-ghost use Rattle.na_edits.specs.Alphabet.{nucleotides};
-ghost use Rattle.na_edits.specs.Parse.{parseIdent, parseSubst, inserted as insertedLetters, afterDelNum, afterDel, afterInv, parseDel, parseIns, parseDup, parseInv};
-ghost use Rattle.na_edits.specs.Sound.{naEditLang};
-ghost use Rattle.na_edits.specs.Brackets.{muNaEditLang};
-ghost use Rattle.read_na_edit.specs.Answer.{naEditAnswer, muNaEditAnswer};
+ghost use Rattle.numerals.specs.declared.Sign.the-variants.{Plain};
+ghost use Rattle.numerals.specs.Reading.{numberAt};
+ghost use Rattle.lang_na_edits.specs.Alphabet.{nucleotides};
+ghost use Rattle.lang_na_edits.specs.Parse.{parseIdent, parseSubst, inserted as insertedLetters, afterDelNum, afterDel, afterInv, parseDel, parseIns, parseDup, parseInv};
+ghost use Rattle.lang_na_edits.specs.Sound.{naEditLang};
+ghost use Rattle.lang_na_edits.specs.Brackets.{muNaEditLang};
+ghost use Rattle.read_na_edit.specs.NaEditAnswers.{naEditAnswer, muNaEditAnswer};
 
 // What stands at the front of a text: the edit, the length of its text, and what is wrong with it.
 pub enum NaEditRead {
@@ -41,8 +41,8 @@ fn ident(table: &[u8; 256], s: &[u8], at: usize) -> NaEditRead
 {
     let m = alphabet::run_of(table, Class::Nucleotide, s);
     if words::begins(&s[m..], b"=") {
-        let seq = scan::span(at, m);
-        return NaEditRead::Found(NaEdit::RefAlt(seq, seq), m + 1, scan::no_faults());
+        let seq = read_scan::span(at, m);
+        return NaEditRead::Found(NaEdit::RefAlt(seq, seq), m + 1, read_scan::no_faults());
     }
     NaEditRead::Nothing
 }
@@ -65,9 +65,9 @@ fn subst(table: &[u8; 256], s: &[u8], at: usize) -> NaEditRead
         return NaEditRead::Nothing;
     }
     NaEditRead::Found(
-        NaEdit::RefAlt(scan::span(at, 1), scan::span(at + 2, 1)),
+        NaEdit::RefAlt(read_scan::span(at, 1), read_scan::span(at + 2, 1)),
         3,
-        scan::settled_if(s[0] != s[2], scan::no_faults()),
+        read_scan::settled_if(s[0] != s[2], read_scan::no_faults()),
     )
 }
 
@@ -89,12 +89,12 @@ fn after_del_num(table: &[u8; 256], s: &[u8], at: usize, n: Number) -> NaEditRea
 {
     let len = n.len;
     let b = inserted(table, &s[len..]);
-    let faults = scan::faults_of(at + 3, n);
+    let faults = read_scan::faults_of(at + 3, n);
     if b == 0 {
         return NaEditRead::Found(NaEdit::DelNum(n.value), 3 + len, faults);
     }
     NaEditRead::Found(
-        NaEdit::NumAlt(n.value, scan::span(at + 3 + len + 3, b)),
+        NaEdit::NumAlt(n.value, read_scan::span(at + 3 + len + 3, b)),
         3 + len + 3 + b,
         faults,
     )
@@ -109,19 +109,22 @@ fn after_del(table: &[u8; 256], s: &[u8], at: usize) -> NaEditRead
     let b = inserted(table, &s[m..]);
     if b != 0 {
         return NaEditRead::Found(
-            NaEdit::RefAlt(scan::span(at + 3, m), scan::span(at + 3 + m + 3, b)),
+            NaEdit::RefAlt(
+                read_scan::span(at + 3, m),
+                read_scan::span(at + 3 + m + 3, b),
+            ),
             3 + m + 3 + b,
-            scan::settled_if(m != b, scan::no_faults()),
+            read_scan::settled_if(m != b, read_scan::no_faults()),
         );
     }
-    let n = number::number_at(table, s, Sign::Plain);
+    let n = numerals::number_at(table, s, Sign::Plain);
     if n.len != 0 {
         return after_del_num(table, s, at, n);
     }
     NaEditRead::Found(
-        NaEdit::DelRef(scan::span(at + 3, m)),
+        NaEdit::DelRef(read_scan::span(at + 3, m)),
         3 + m,
-        scan::no_faults(),
+        read_scan::no_faults(),
     )
 }
 
@@ -144,7 +147,11 @@ fn ins(table: &[u8; 256], s: &[u8], at: usize) -> NaEditRead
     if m == 0 {
         return NaEditRead::Nothing;
     }
-    NaEditRead::Found(NaEdit::Ins(scan::span(at + 3, m)), 3 + m, scan::no_faults())
+    NaEditRead::Found(
+        NaEdit::Ins(read_scan::span(at + 3, m)),
+        3 + m,
+        read_scan::no_faults(),
+    )
 }
 
 // `dup` seq
@@ -154,7 +161,11 @@ fn dup(table: &[u8; 256], s: &[u8], at: usize) -> NaEditRead
 {
     if words::begins(s, b"dup") {
         let m = alphabet::run_of(table, Class::Nucleotide, &s[3..]);
-        return NaEditRead::Found(NaEdit::Dup(scan::span(at + 3, m)), 3 + m, scan::no_faults());
+        return NaEditRead::Found(
+            NaEdit::Dup(read_scan::span(at + 3, m)),
+            3 + m,
+            read_scan::no_faults(),
+        );
     }
     NaEditRead::Nothing
 }
@@ -164,16 +175,20 @@ fn after_inv(table: &[u8; 256], s: &[u8], at: usize) -> NaEditRead
     requires { ⌜ (at + 3 + length (now s) ≤ 4096) × IsTable (now table) ⌝ }
     ensures { λ r. ⌜ r ≡ naEditAnswer at (some (afterInv nucleotide (now (s .entry)))) ⌝ }
 {
-    let n = number::number_at(table, s, Sign::Plain);
+    let n = numerals::number_at(table, s, Sign::Plain);
     let len = n.len;
     if len != 0 {
-        return NaEditRead::Found(NaEdit::InvNum(n.value), 3 + len, scan::faults_of(at + 3, n));
+        return NaEditRead::Found(
+            NaEdit::InvNum(n.value),
+            3 + len,
+            read_scan::faults_of(at + 3, n),
+        );
     }
     let m = alphabet::run_of(table, Class::Nucleotide, s);
     NaEditRead::Found(
-        NaEdit::InvRef(scan::span(at + 3, m)),
+        NaEdit::InvRef(read_scan::span(at + 3, m)),
         3 + m,
-        scan::no_faults(),
+        read_scan::no_faults(),
     )
 }
 
@@ -220,11 +235,11 @@ pub fn mu_na_edit_at(table: &[u8; 256], s: &[u8], at: usize) -> MuNaEditRead
     requires { ⌜ (at + length (now s) ≤ 4096) × IsTable (now table) ⌝ }
     ensures { λ r. ⌜ r ≡ muNaEditAnswer at (muNaEditLang nucleotide nucleotides .parse (now (s .entry))) ⌝ }
 {
-    let a = scan::opening(s);
+    let a = read_scan::opening(s);
     let NaEditRead::Found(e, n, faults) = na_edit_at(table, &s[a..], at + a) else {
         return MuNaEditRead::Nothing;
     };
-    match scan::closing(s, a, n) {
+    match read_scan::closing(s, a, n) {
         Ending::Bare => MuNaEditRead::Found(MuNaEdit::Certain(e), n, faults),
         Ending::Closed(k) => MuNaEditRead::Found(MuNaEdit::Uncertain(e), k, faults),
         Ending::Missing => MuNaEditRead::Nothing,

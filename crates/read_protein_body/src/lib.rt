@@ -4,20 +4,20 @@ use read_location::LocationRead;
 use read_na_body::BodyRead;
 use read_protein_edit::MuProteinEditRead;
 use read_protein_edit::ProteinEditRead;
+use read_scan::Faults;
 use record::Body;
 use record::Kind;
 use record::MuProteinEdit;
 use record::ProtLocEdit;
-use scan::Faults;
 ghost use mathlib.Core.Path.{_≡_};
 ghost use Prim.Native.Nat.{_+_, _≤_};
 ghost use lib.ListN.{length};
 ghost use Rattle.alphabet.specs.Cells.{IsTable};
-ghost use Rattle.protein_edits.specs.Instance.{proteinEditLang, muProteinEditLang};
-ghost use Rattle.bodies.specs.ProteinBodies.{exactBodies, firstExact, parsePlain, parseOpened, parseOrdinary, parseProteinBody};
+ghost use Rattle.lang_protein_edits.specs.Instance.{proteinEditLang, muProteinEditLang};
+ghost use Rattle.lang_bodies.specs.ProteinBodies.{exactBodies, firstExact, parsePlain, parseOpened, parseOrdinary, parseProteinBody};
 ghost use Rattle.record.specs.declared.Kind.the-variants.{Prot};
-ghost use Rattle.read_na_body.specs.Answer.{bodyAnswer};
-ghost use Rattle.read_protein_body.specs.Answer.{exactAnswer, ordinaryAnswer, afterAnswer, insideAnswer};
+ghost use Rattle.read_na_body.specs.NaBodyAnswers.{bodyAnswer};
+ghost use Rattle.read_protein_body.specs.ProteinBodyAnswers.{exactAnswer, ordinaryAnswer, afterAnswer, insideAnswer};
 
 pub enum ExactRead {
     Nothing,
@@ -80,7 +80,7 @@ fn after_location(
     OrdinaryRead::Found(
         ProtLocEdit::Ordinary(loc, edit),
         n + m,
-        scan::leftmost(faults, later),
+        read_scan::leftmost(faults, later),
     )
 }
 
@@ -107,7 +107,7 @@ fn inside_brackets(
     OrdinaryRead::Found(
         ProtLocEdit::Ordinary(loc, MuProteinEdit::Uncertain(edit)),
         1 + n + m + 1,
-        scan::leftmost(faults, later),
+        read_scan::leftmost(faults, later),
     )
 }
 
@@ -127,7 +127,7 @@ fn opened(table: &[u8; 256], s: &[u8], at: usize) -> OrdinaryRead
             table,
             any_location::uncertain(l),
             behind,
-            scan::settled_if(false, faults),
+            read_scan::settled_if(false, faults),
             &s[k..],
             at + behind,
         );
@@ -163,7 +163,7 @@ pub fn prot_body(table: &[u8; 256], s: &[u8], at: usize) -> BodyRead
     if let ExactRead::Found(b) = exact(s) {
         return BodyRead::Found(
             Body::Prot(b),
-            scan::settled_if(!words::begins(s, b"("), scan::no_faults()),
+            read_scan::settled_if(!words::begins(s, b"("), read_scan::no_faults()),
         );
     }
     let OrdinaryRead::Found(b, n, faults) = ordinary(table, s, at) else {

@@ -16,11 +16,11 @@ use Rattle.texts.specs.Slices.{tail, tail-part}
 use Rattle.texts.specs.Runs.{run, front}
 use Rattle.texts.specs.Words.{starts, starts-length}
 use Rattle.alphabet.specs.Letters.{digit}
-use Rattle.number.specs.Reading.{numberAt}
-use Rattle.number.specs.declared.Number.{Number}
-use Rattle.number.specs.declared.Sign.the-variants.{Plain, Negated}
+use Rattle.numerals.specs.Reading.{numberAt}
+use Rattle.numerals.specs.declared.Number.{Number}
+use Rattle.numerals.specs.declared.Sign.the-variants.{Plain, Negated}
 use Rattle.residue.specs.Reading.{residueLen}
-use Rattle.residue.specs.Laws.{residue-le}
+use Rattle.residue.specs.ResiduesRead.{residue-le}
 use Rattle.record.specs.declared.Span.{Span}
 use Rattle.record.specs.declared.Part.{Part}
 use Rattle.record.specs.declared.Part.the-variants.{Absent, Present}
@@ -32,17 +32,17 @@ use Rattle.grammar.specs.ProteinEdits.{Terminal, Terminal.ter, Terminal.x, Term
 use Rattle.grammar.specs.Records.{span, partOf}
 use Rattle.lang.specs.Lang.{front-within}
 use Rattle.grammar.specs.Numbers.{Numeral.numeral}
-use Rattle.scan.specs.Faults.{faults, none as noFault, ofNumber, settledIf, faults-nil, settled-only}
-use Rattle.scan.specs.Reading.{number-run, number-len, number-le, number-value, number-faults}
-use Rattle.scan.specs.declared.Faults.{Faults}
-use Rattle.protein_edits.specs.Parse.{bytesOf, terminalAt, lengthAt, stopAt, earlierWith, earlierAt, laterOf, extEndAt}
-use Rattle.protein_edits.specs.Complete.{bytes-some}
-use Rattle.protein_edits.specs.Sound.{bytes-print, terminal-sound, length-sound, fs-sound}
+use Rattle.read_scan.specs.Faults.{faults, none as noFault, ofNumber, settledIf, faults-nil, settled-only}
+use Rattle.read_scan.specs.Reading.{number-run, number-len, number-le, number-value, number-faults}
+use Rattle.read_scan.specs.declared.Faults.{Faults}
+use Rattle.lang_protein_edits.specs.Parse.{bytesOf, terminalAt, lengthAt, stopAt, earlierWith, earlierAt, laterOf, extEndAt}
+use Rattle.lang_protein_edits.specs.Complete.{bytes-some}
+use Rattle.lang_protein_edits.specs.Sound.{bytes-print, terminal-sound, length-sound, fs-sound}
 use Rattle.read_protein_edit.specs.declared.ProteinEditRead.{ProteinEditRead}
 use Rattle.read_protein_edit.specs.declared.ProteinEditRead.the-variants.{Nothing, Found}
 use Rattle.read_protein_edit.specs.declared.LengthRead.{LengthRead}
 use Rattle.read_protein_edit.specs.declared.StopRead.{StopRead}
-use Rattle.read_protein_edit.specs.Answer.{terminalLen, lengthRead, stopRead, residuePart, fsRead, extRead, earlierRead}
+use Rattle.read_protein_edit.specs.ProteinEditAnswers.{terminalLen, lengthRead, stopRead, residuePart, fsRead, extRead, earlierRead}
 
 -- ---- terminals
 module _ (s : List ℕ) where

@@ -9,15 +9,15 @@ use Rattle.record.specs.declared.MuProteinEdit.{MuProteinEdit}
 use Rattle.record.specs.declared.MuProteinEdit.the-variants.{Certain, Uncertain}
 use Rattle.grammar.specs.Records.{proteinEditAt, muProteinEditAt}
 use Rattle.grammar.specs.Numbers.{proteinEditNumbers}
-use Rattle.scan.specs.declared.Faults.{Faults}
-use Rattle.scan.specs.Answers.{Cases, Told, told, unread}
-use Rattle.scan.specs.MuAnswers.{Bracketed}
-use Rattle.protein_edits.specs.Settled.{settledProteinEdit}
-use Rattle.protein_edits.specs.Parse.{parse}
-use Rattle.protein_edits.specs.Instance.{proteinEditLang, muProteinEditLang}
+use Rattle.read_scan.specs.declared.Faults.{Faults}
+use Rattle.read_scan.specs.Accounts.{Cases, Told, told, unread}
+use Rattle.read_scan.specs.MuAccounts.{Bracketed}
+use Rattle.lang_protein_edits.specs.Settled.{settledProteinEdit}
+use Rattle.lang_protein_edits.specs.Parse.{parse}
+use Rattle.lang_protein_edits.specs.Instance.{proteinEditLang, muProteinEditLang}
 use Rattle.read_protein_edit.specs.declared.ProteinEditRead.the-variants as Edits
 use Rattle.read_protein_edit.specs.declared.MuProteinEditRead.the-variants as Mus
-use Rattle.read_protein_edit.specs.Answer.{proteinEdits, proteinEditAnswer, muProteinEdits, muProteinEditAnswer}
+use Rattle.read_protein_edit.specs.ProteinEditAnswers.{proteinEdits, proteinEditAnswer, muProteinEdits, muProteinEditAnswer}
 
 pub edit-cases : Cases Edits.Nothing Edits.Found
 edit-cases = record { apart = λ e. let y : _≡_ {A = ℕ} 0 1 = cc in omega arith; same = λ e. (cc, cc, cc) }

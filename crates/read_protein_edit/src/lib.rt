@@ -1,18 +1,18 @@
 // Reading a protein edit.
-use number::Sign;
+use numerals::Sign;
+use read_scan::Ending;
+use read_scan::Faults;
 use record::MuProteinEdit;
 use record::Part;
 use record::ProteinEdit;
 use record::UncertainLengthChange;
-use scan::Ending;
-use scan::Faults;
 ghost use mathlib.Core.Path.{_≡_};
 ghost use Prim.Native.Nat.{_+_, _≤_};
 ghost use lib.ListN.{length};
 ghost use Rattle.alphabet.specs.Cells.{IsTable};
-ghost use Rattle.protein_edits.specs.Parse.{terminalAt, lengthAt, stopAt, earlierAt, laterOf, extEndAt, residuesBehind, wordedAt};
-ghost use Rattle.protein_edits.specs.Instance.{proteinEditLang, muProteinEditLang};
-ghost use Rattle.read_protein_edit.specs.Answer.{proteinEditAnswer, muProteinEditAnswer, terminalLen, lengthRead, stopRead, residuePart, fsRead, extRead, earlierRead};
+ghost use Rattle.lang_protein_edits.specs.Parse.{terminalAt, lengthAt, stopAt, earlierAt, laterOf, extEndAt, residuesBehind, wordedAt};
+ghost use Rattle.lang_protein_edits.specs.Instance.{proteinEditLang, muProteinEditLang};
+ghost use Rattle.read_protein_edit.specs.ProteinEditAnswers.{proteinEditAnswer, muProteinEditAnswer, terminalLen, lengthRead, stopRead, residuePart, fsRead, extRead, earlierRead};
 
 // What stands at the front of a text: an edit, how long it is, and what is wrong with its number.
 pub enum ProteinEditRead {
@@ -60,25 +60,25 @@ fn length_at(table: &[u8; 256], s: &[u8], at: usize) -> LengthRead
     requires { ⌜ (at ≤ 4096) × IsTable (now table) ⌝ }
     ensures { λ r. ⌜ r ≡ lengthRead at (lengthAt (now (s .entry))) ⌝ }
 {
-    let n = number::number_at(table, s, Sign::Plain);
+    let n = numerals::number_at(table, s, Sign::Plain);
     if n.len != 0 {
         return LengthRead {
             change: UncertainLengthChange::Known(n.value),
             len: n.len,
-            faults: scan::faults_of(at, n),
+            faults: read_scan::faults_of(at, n),
         };
     }
     if words::begins(s, b"?") {
         return LengthRead {
             change: UncertainLengthChange::Unknown,
             len: 1,
-            faults: scan::no_faults(),
+            faults: read_scan::no_faults(),
         };
     }
     LengthRead {
         change: UncertainLengthChange::None,
         len: 0,
-        faults: scan::no_faults(),
+        faults: read_scan::no_faults(),
     }
 }
 
@@ -92,14 +92,14 @@ fn stop_at(table: &[u8; 256], s: &[u8], at: usize) -> StopRead
             terminal: Part::Absent,
             change: UncertainLengthChange::None,
             len: 0,
-            faults: scan::no_faults(),
+            faults: read_scan::no_faults(),
         };
     }
     let n = length_at(table, &s[t..], at + t);
     let change = n.change;
     let faults = n.faults;
     StopRead {
-        terminal: Part::Present(scan::span(at, t)),
+        terminal: Part::Present(read_scan::span(at, t)),
         change,
         len: t + n.len,
         faults,
@@ -114,7 +114,7 @@ fn residue_part(at: usize, n: usize) -> Part
     if n == 0 {
         Part::Absent
     } else {
-        Part::Present(scan::span(at, n))
+        Part::Present(read_scan::span(at, n))
     }
 }
 
@@ -144,7 +144,7 @@ fn ext_neg_shift(table: &[u8; 256], s: &[u8], at: usize, n: usize) -> ProteinEdi
     if !words::begins(rest, b"-") {
         return ProteinEditRead::Nothing;
     }
-    let d = number::number_at(table, &rest[1..], Sign::Negated);
+    let d = numerals::number_at(table, &rest[1..], Sign::Negated);
     if d.len == 0 {
         return ProteinEditRead::Nothing;
     }
@@ -156,7 +156,7 @@ fn ext_neg_shift(table: &[u8; 256], s: &[u8], at: usize, n: usize) -> ProteinEdi
             UncertainLengthChange::Known(d.value),
         ),
         n + 3 + m + 1 + d.len,
-        scan::settled_if(false, scan::faults_of(k + m + 1, d)),
+        read_scan::settled_if(false, read_scan::faults_of(k + m + 1, d)),
     )
 }
 
@@ -207,24 +207,24 @@ fn worded(table: &[u8; 256], s: &[u8], at: usize) -> ProteinEditRead
     let m = residues_behind(table, s, b"delins");
     if m != 0 {
         return ProteinEditRead::Found(
-            ProteinEdit::DelIns(scan::span(at + 6, m)),
+            ProteinEdit::DelIns(read_scan::span(at + 6, m)),
             6 + m,
-            scan::no_faults(),
+            read_scan::no_faults(),
         );
     }
     if words::begins(s, b"del") {
-        return ProteinEditRead::Found(ProteinEdit::Del, 3, scan::no_faults());
+        return ProteinEditRead::Found(ProteinEdit::Del, 3, read_scan::no_faults());
     }
     let k = residues_behind(table, s, b"ins");
     if k != 0 {
         return ProteinEditRead::Found(
-            ProteinEdit::Ins(scan::span(at + 3, k)),
+            ProteinEdit::Ins(read_scan::span(at + 3, k)),
             3 + k,
-            scan::no_faults(),
+            read_scan::no_faults(),
         );
     }
     if words::begins(s, b"dup") {
-        return ProteinEditRead::Found(ProteinEdit::Dup, 3, scan::no_faults());
+        return ProteinEditRead::Found(ProteinEdit::Dup, 3, read_scan::no_faults());
     }
     ProteinEditRead::Nothing
 }
@@ -243,13 +243,21 @@ pub fn protein_edit_at(table: &[u8; 256], s: &[u8], at: usize) -> ProteinEditRea
         return ext(table, &rest[3..], at, n);
     }
     if words::begins(s, b"=") {
-        return ProteinEditRead::Found(ProteinEdit::Ident, 1, scan::no_faults());
+        return ProteinEditRead::Found(ProteinEdit::Ident, 1, read_scan::no_faults());
     }
     if words::begins(s, b"?") {
-        return ProteinEditRead::Found(ProteinEdit::Subst(scan::span(at, 1)), 1, scan::unsettled());
+        return ProteinEditRead::Found(
+            ProteinEdit::Subst(read_scan::span(at, 1)),
+            1,
+            read_scan::unsettled(),
+        );
     }
     if n != 0 {
-        return ProteinEditRead::Found(ProteinEdit::Subst(scan::span(at, n)), n, scan::no_faults());
+        return ProteinEditRead::Found(
+            ProteinEdit::Subst(read_scan::span(at, n)),
+            n,
+            read_scan::no_faults(),
+        );
     }
     worded(table, s, at)
 }
@@ -259,11 +267,11 @@ pub fn mu_protein_edit_at(table: &[u8; 256], s: &[u8], at: usize) -> MuProteinEd
     requires { ⌜ (at + length (now s) ≤ 4096) × IsTable (now table) ⌝ }
     ensures { λ r. ⌜ r ≡ muProteinEditAnswer at (muProteinEditLang .parse (now (s .entry))) ⌝ }
 {
-    let a = scan::opening(s);
+    let a = read_scan::opening(s);
     let ProteinEditRead::Found(e, n, faults) = protein_edit_at(table, &s[a..], at + a) else {
         return MuProteinEditRead::Nothing;
     };
-    match scan::closing(s, a, n) {
+    match read_scan::closing(s, a, n) {
         Ending::Bare => MuProteinEditRead::Found(MuProteinEdit::Certain(e), n, faults),
         Ending::Closed(k) => MuProteinEditRead::Found(MuProteinEdit::Uncertain(e), k, faults),
         Ending::Missing => MuProteinEditRead::Nothing,

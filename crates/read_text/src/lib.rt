@@ -2,19 +2,19 @@
 use read_header::HeaderRead;
 use read_header::KindRead;
 use read_na_body::BodyRead;
+use read_scan::Faults;
 use record::HgvsVariant;
 use record::Kind;
-use scan::Faults;
 ghost use mathlib.Core.Path.{_≡_};
 ghost use Prim.Native.Nat.{_+_, _≤_};
 ghost use lib.ListN.{length};
 ghost use Rattle.alphabet.specs.Cells.{IsTable};
 ghost use Rattle.grammar.specs.Texts.{allLetters};
-ghost use Rattle.na_edits.specs.Alphabet.{alphabets};
-ghost use Rattle.bodies.specs.BodyLang.{parseBody};
-ghost use Rattle.bodies.specs.WholeText.{parseText};
-ghost use Rattle.read_na_body.specs.Answer.{bodyAnswer};
-ghost use Rattle.read_text.specs.Answer.{isProtein, textAnswer};
+ghost use Rattle.lang_na_edits.specs.Alphabet.{alphabets};
+ghost use Rattle.lang_bodies.specs.BodyLang.{parseBody};
+ghost use Rattle.lang_bodies.specs.WholeText.{parseText};
+ghost use Rattle.read_na_body.specs.NaBodyAnswers.{bodyAnswer};
+ghost use Rattle.read_text.specs.TextAnswers.{isProtein, textAnswer};
 
 // A text of the grammar: its record, and what is wrong with its numbers.
 pub enum TextRead {

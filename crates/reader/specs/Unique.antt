@@ -5,13 +5,13 @@ use mathlib.Core.List.{List}
 use mathlib.Core.Bool.{Bool}
 use Rattle.record.specs.declared.ReadAnswer.{ReadAnswer}
 use Rattle.grammar.specs.Texts.{Text, print, Wf, allLetters}
-use Rattle.bodies.specs.WholeText.{unambiguous}
+use Rattle.lang_bodies.specs.WholeText.{unambiguous}
 use Rattle.promise.specs.Outcome.{readOutcome}
 use Rattle.promise.specs.Reading.{Reads}
 use Rattle.promise.specs.Unique.{one-read-answer}
-use Rattle.na_edits.specs.Alphabet.{alphabets}
+use Rattle.lang_na_edits.specs.Alphabet.{alphabets}
 use Rattle.reader.specs.declared.Reading.{Reading}
-use Rattle.reader.specs.Answer.{Tells}
+use Rattle.reader.specs.Telling.{Tells}
 
 -- the grammar is unambiguous
 pub one-tree : (x y : Text) → Wf allLetters x → Wf allLetters y → print x ≡ print y → x ≡ y

@@ -6,7 +6,7 @@ ghost use mathlib.Core.Path.{_≡_};
 ghost use Rattle.grammar.specs.Texts.{allLetters};
 ghost use Rattle.promise.specs.Outcome.{readOutcome};
 ghost use Rattle.promise.specs.Reading.{Reads};
-ghost use Rattle.reader.specs.Answer.{Tells, refusedFor};
+ghost use Rattle.reader.specs.Telling.{Tells, refusedFor};
 
 // The answer for a text, and whether the text is settled: accepted, and shown by its spelling to be the shortest text of its record.
 pub struct Reading {
@@ -34,14 +34,14 @@ pub fn reading_of(text: &[u8]) -> Reading
     let TextRead::Found(v, faults) = read_text::hgvs_variant(&table, text) else {
         return refused(Refusal::NotInGrammar);
     };
-    let said = scan::verdict_of(faults);
+    let said = read_scan::verdict_of(faults);
     let rank = said.rank;
-    if rank == scan::DOES_NOT_FIT {
+    if rank == read_scan::DOES_NOT_FIT {
         return refused(Refusal::DoesNotFit(said.place));
     }
     Reading {
         answer: ReadAnswer::Accepted(v),
-        settled: rank == scan::SETTLED,
+        settled: rank == read_scan::SETTLED,
     }
 }
 

@@ -1,4 +1,4 @@
 pub mod Rows
 pub mod Residues
 pub mod Reading
-pub mod Laws
+pub mod ResiduesRead

@@ -13,13 +13,13 @@ use Rattle.grammar.specs.ContentLaw.{content-is}
 use Rattle.grammar.specs.SpanLaw.{spans-in-text}
 use Rattle.grammar.specs.Numbers.{numbersAt}
 use Rattle.grammar.specs.NumberLaws.{isFaultless, allPlain}
-use Rattle.na_edits.specs.Alphabet.{alphabets}
-use Rattle.bodies.specs.WholeText.{parseText, complete-text}
-use Rattle.bodies.specs.Settled.{settledText, isSettled, parsed-settled}
+use Rattle.lang_na_edits.specs.Alphabet.{alphabets}
+use Rattle.lang_bodies.specs.WholeText.{parseText, complete-text}
+use Rattle.lang_bodies.specs.Settled.{settledText, isSettled, parsed-settled}
 use Rattle.promise.specs.Outcome.{Outcome.given, Outcome.refused}
 use Rattle.promise.specs.Reading.{Reads, Reads.accepted}
 use Rattle.promise.specs.Writing.{Sound, Writes, ToWrite}
-use Rattle.canon.specs.Settled.{settled-shortest}
+use Rattle.lang_canon.specs.Settled.{settled-shortest}
 
 module _ (s : List ℕ) (settled : isSettled allLetters alphabets s ≡ true) where
   pub settled-text : (v : HgvsVariant) → Reads allLetters s (given v) → ToWrite allLetters (content s v) s

@@ -6,13 +6,13 @@ use record::Refusal;
 use record::WriteAnswer;
 ghost use mathlib.Core.Path.{_≡_};
 ghost use Rattle.grammar.specs.Texts.{allLetters};
-ghost use Rattle.na_edits.specs.Alphabet.{alphabets};
-ghost use Rattle.bodies.specs.Settled.{isSettled};
+ghost use Rattle.lang_na_edits.specs.Alphabet.{alphabets};
+ghost use Rattle.lang_bodies.specs.Settled.{isSettled};
 ghost use Rattle.promise.specs.Outcome.{Outcome.given, writeOutcome};
 ghost use Rattle.promise.specs.Reading.{Reads};
 ghost use Rattle.promise.specs.Writing.{Writes, ToWrite};
 ghost use Rattle.promise.specs.NoRef.{NoRefText};
-ghost use Rattle.numbered.specs.Answers.{Rewrites};
+ghost use Rattle.numbered.specs.TextOperations.{Rewrites};
 
 // The shortest text of the record v that the text reads as. A settled text is its own, and is copied.
 fn rewrite(text: &[u8], v: HgvsVariant, settled: bool, output: &mut [u8]) -> WriteAnswer

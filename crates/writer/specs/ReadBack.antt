@@ -13,15 +13,15 @@ use Rattle.grammar.specs.Values.{Value}
 use Rattle.grammar.specs.Records.{recordAt}
 use Rattle.grammar.specs.Contents.{content}
 use Rattle.grammar.specs.ContentLaw.{content-is}
-use Rattle.na_edits.specs.Alphabet.{alphabets}
+use Rattle.lang_na_edits.specs.Alphabet.{alphabets}
 use Rattle.promise.specs.Outcome.{Outcome.given, Outcome.refused, limit}
 use Rattle.promise.specs.Reading.{Reads, Reads.accepted}
 use Rattle.promise.specs.Writing.{Writes, ToWrite, ReadsAsValue, Unsound}
 use Rattle.promise.specs.NoRef.{NoRefText}
 use Rattle.promise.specs.Unique.{one-shortest}
-use Rattle.canon.specs.TextCanon.{canonText, text-some, text-none}
-use Rattle.canon.specs.Changes.{changed}
-use Rattle.canon.specs.NoRefCanon.{no-ref-some, no-ref-only}
+use Rattle.lang_canon.specs.TextCanon.{canonText, text-some, text-none}
+use Rattle.lang_canon.specs.Changes.{changed}
+use Rattle.lang_canon.specs.NoRefCanon.{no-ref-some, no-ref-only}
 
 -- a text that reads as a value, read
 pub record ReadBack (t : List ℕ) (v : Value) : Type 0 where

@@ -8,7 +8,7 @@ ghost use Rattle.grammar.specs.Texts.{allLetters};
 ghost use Rattle.promise.specs.Outcome.{writeOutcome};
 ghost use Rattle.promise.specs.Writing.{Writes, ToWrite};
 ghost use Rattle.promise.specs.NoRef.{NoRefText};
-ghost use Rattle.canon.specs.Wording.{Wanted};
+ghost use Rattle.lang_canon.specs.Wording.{Wanted};
 
 fn write_wanted(source: &[u8], v: HgvsVariant, output: &mut [u8], wording: Wording) -> WriteAnswer
     ensures { λ r. ⌜ Writes allLetters (Wanted allLetters wording) (now (source .entry)) v (now (output .entry)) (writeOutcome r) (now (output .exit)) ⌝ }
@@ -22,7 +22,7 @@ fn write_wanted(source: &[u8], v: HgvsVariant, output: &mut [u8], wording: Wordi
     let TextPlan::Text(d) = plan_text::plan_text(source, wording, v) else {
         return WriteAnswer::Refused(Refusal::NoText);
     };
-    draft::write_draft(source, d, output)
+    emit_draft::write_draft(source, d, output)
 }
 
 // The shortest text, first in byte order among equals, at the front of the output; or the refusal's number, and nothing written.

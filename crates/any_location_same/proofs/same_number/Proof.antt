@@ -1,4 +1,4 @@
-use Rattle.location.specs.Equal.{machine-equal}
+use Rattle.lang_locations.specs.Equal.{machine-equal}
 use Rattle.any_location_same.proofs.same_number.Statement.{statement}
 use Rattle.any_location_same.proofs.same_number.Tie as tie
 

@@ -1,6 +1,6 @@
 use mathlib.Core.Path.{_∙_}
 use Rattle.any_location_same.specs.Same.{samePosition}
-use Rattle.any_location_same.proofs.Laws.{genome-same, mt-same}
+use Rattle.any_location_same.proofs.MayBeUnknown.{genome-same, mt-same}
 use borrow.Author.Needs.{needs}
 use Rattle.any_location_same.proofs.same_position.Statement.{statement}
 use Rattle.any_location_same.proofs.same_position.Tie as tie

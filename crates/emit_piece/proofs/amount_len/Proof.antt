@@ -1,6 +1,6 @@
 use native.Mathlib.Omega.{arith}
 use borrow.Author.Needs.{needs}
-use Rattle.number.specs.Decimals.{dec-short}
+use Rattle.numerals.specs.Decimals.{dec-short}
 use Rattle.emit_piece.proofs.amount_len.Statement.{statement}
 use Rattle.emit_piece.proofs.amount_len.Tie as tie
 

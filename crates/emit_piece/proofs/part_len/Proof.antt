@@ -2,7 +2,7 @@ use mathlib.Core.Path.{ap}
 use lib.ListN.{length}
 use borrow.Author.Needs.{needs}
 use native.Mathlib.Omega.{arith}
-use Rattle.emit_piece.specs.Laws.{part-short}
+use Rattle.emit_piece.specs.PartLengths.{part-short}
 use Rattle.emit_piece.proofs.part_len.Statement.{statement}
 use Rattle.emit_piece.proofs.part_len.Tie as tie
 

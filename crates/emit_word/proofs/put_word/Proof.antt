@@ -3,7 +3,7 @@ use mathlib.Core.Path.{_≡_}
 use native.Mathlib.Omega.{arith}
 use borrow.Author.Needs.{needs}
 use Rattle.emit_word.specs.Words.{wordText, words}
-use Rattle.emit_word.proofs.Laws.{word-part}
+use Rattle.emit_word.proofs.WordParts.{word-part}
 use Rattle.grammar.specs.Spans.{part}
 use Rattle.emit_word.proofs.put_word.Statement.{statement}
 use Rattle.emit_word.proofs.put_word.Tie as tie

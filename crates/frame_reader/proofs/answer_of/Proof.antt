@@ -1,7 +1,7 @@
 -- A bad line comes first, then a text that the buffer does not hold.
 use mathlib.Core.Path.{sym}
 use lib.Seq.{length-take-le}
-use Rattle.frame_reader.proofs.Laws.{answers-bad, answers-long, answers-outside, answers-read}
+use Rattle.frame_reader.proofs.CallAnswers.{answers-bad, answers-long, answers-outside, answers-read}
 use borrow.Author.Needs.{needs}
 use Rattle.frame_reader.proofs.answer_of.Statement.{statement}
 use Rattle.frame_reader.proofs.answer_of.Tie as tie

@@ -1,7 +1,7 @@
 -- A call that met no empty line is silent, and one that met it answers.
 use borrow.Author.Needs.{needs}
 use borrow.Author.Tests.{not-true, not-false}
-use Rattle.frame_reader.proofs.Laws.{fed-silent, fed-answered}
+use Rattle.frame_reader.proofs.CallAnswers.{fed-silent, fed-answered}
 use Rattle.frame_reader.proofs.feed.Statement.{statement}
 use Rattle.frame_reader.proofs.feed.Tie as tie
 

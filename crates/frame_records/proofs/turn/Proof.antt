@@ -1,6 +1,6 @@
 use borrow.Author.Needs.{needs}
 use native.Mathlib.Omega.{arith}
-use Rattle.frame_records.proofs.Laws.{fed-used}
+use Rattle.frame_records.proofs.CallNeeds.{fed-used}
 use Rattle.frame_records.proofs.turn.Statement.{statement}
 use Rattle.frame_records.proofs.turn.Tie as tie
 

@@ -3,7 +3,7 @@ use mathlib.Core.Path.{sym, _∙_}
 use borrow.Author.Needs.{needs}
 use Rattle.frames.specs.Taking.{Standing}
 use Rattle.frames.specs.Bytes.{after-end, after-other, after-bad, after-full, after-first, after-second}
-use Rattle.frames.proofs.Laws.{is-other, is-digit, with-state}
+use Rattle.frames.proofs.ByteTests.{is-other, is-digit, with-state}
 use Rattle.frames.proofs.after_byte.Statement.{statement}
 use Rattle.frames.proofs.after_byte.Tie as tie
 

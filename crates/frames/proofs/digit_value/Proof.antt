@@ -1,6 +1,6 @@
 -- The tests, from the lowest bound to the highest.
 use borrow.Author.Needs.{needs}
-use Rattle.frames.proofs.Laws.{below-digits, decimal-digit, below-upper, upper-digit, below-lower, lower-digit, above-digits}
+use Rattle.frames.proofs.ByteTests.{below-digits, decimal-digit, below-upper, upper-digit, below-lower, lower-digit, above-digits}
 use Rattle.frames.proofs.digit_value.Statement.{statement}
 use Rattle.frames.proofs.digit_value.Tie as tie
 

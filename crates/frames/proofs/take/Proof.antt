@@ -5,7 +5,7 @@ use native.Mathlib.Omega.{arith}
 use lib.ListN.{length, drop}
 use borrow.Author.Needs.{needs}
 use Rattle.frames.specs.Taking.{Standing, behind, takes}
-use Rattle.frames.proofs.Laws.{takes-start, takes-stop, takes-more, takes-end, told-of}
+use Rattle.frames.proofs.ByteTests.{takes-start, takes-stop, takes-more, takes-end, told-of}
 use Rattle.frames.proofs.take.Statement.{statement}
 use Rattle.frames.proofs.take.Tie as tie
 

@@ -6,7 +6,7 @@ use borrow.Author.Needs.{needs}
 use borrow.Author.Tests.{not-true, not-false}
 use lib.ListN.{length}
 use Rattle.alphabet.specs.Classes.{member}
-use Rattle.header_lengths.proofs.Laws.{no-accession-end, no-initial, no-name, name-le, suffix-le, version-le, accession-is}
+use Rattle.header_lengths.proofs.CountedParts.{no-accession-end, no-initial, no-name, name-le, suffix-le, version-le, accession-is}
 use Rattle.header_lengths.proofs.accession.Statement.{statement}
 use Rattle.header_lengths.proofs.accession.Tie as tie
 

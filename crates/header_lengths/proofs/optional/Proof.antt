@@ -6,7 +6,7 @@ use borrow.Author.Needs.{needs}
 use borrow.Author.Tests.{not-true, not-false}
 use Rattle.texts.specs.Words.{starts, starts-length}
 use Rattle.alphabet.specs.Classes.{member}
-use Rattle.header_lengths.proofs.Laws.{optional-no-word, optional-fits, optional-empty, optional-found}
+use Rattle.header_lengths.proofs.CountedParts.{optional-no-word, optional-fits, optional-empty, optional-found}
 use Rattle.header_lengths.proofs.optional.Statement.{statement}
 use Rattle.header_lengths.proofs.optional.Tie as tie
 

@@ -3,7 +3,7 @@ use native.Mathlib.Omega.{arith}
 use lib.Seq.{length-take-le}
 use Rattle.line_runs.specs.declared.Next.the-variants.{Step, WriteLast}
 use Rattle.line_runs.specs.After.{Ready, Acted}
-use Rattle.line_program.proofs.Laws.{part-left, step-within}
+use Rattle.line_program.proofs.RunSoFar.{part-left, step-within}
 use borrow.Author.Needs.{needs}
 use Rattle.line_program.proofs.act.Statement.{statement}
 use Rattle.line_program.proofs.act.Tie as tie

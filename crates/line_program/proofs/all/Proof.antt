@@ -1,6 +1,6 @@
 use mathlib.Core.Path.{_≡_, refl}
 use lib.ListN.{length}
-use Rattle.line_program.proofs.Laws.{Standing, standing-start, standing-more, ran-to-stop, ran-out}
+use Rattle.line_program.proofs.RunSoFar.{Standing, standing-start, standing-more, ran-to-stop, ran-out}
 use borrow.Author.Needs.{needs}
 use Rattle.line_program.proofs.all.Statement.{statement}
 use Rattle.line_program.proofs.all.Tie as tie

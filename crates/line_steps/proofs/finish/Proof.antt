@@ -1,5 +1,5 @@
 use mathlib.Core.Path.{sym, _∙_}
-use Rattle.line_steps.proofs.Laws.{last-some, last-none}
+use Rattle.line_steps.proofs.EndedAnswer.{last-some, last-none}
 use borrow.Author.Needs.{needs}
 use Rattle.line_steps.proofs.finish.Statement.{statement}
 use Rattle.line_steps.proofs.finish.Tie as tie

@@ -5,7 +5,7 @@ use Rattle.texts.specs.Slices.{tail-part}
 use Rattle.lines.specs.Steps.{Standing, standing-start, used-more, standing-more, stepped-all, stepped-full}
 use Rattle.line_promise.specs.Computed.{lineAnswer}
 use Rattle.line_promise.specs.Output.{mostBytes}
-use Rattle.line_steps.proofs.Laws.{said-short}
+use Rattle.line_steps.proofs.EndedAnswer.{said-short}
 use borrow.Author.Needs.{needs}
 use Rattle.line_steps.proofs.step.Statement.{statement}
 use Rattle.line_steps.proofs.step.Tie as tie

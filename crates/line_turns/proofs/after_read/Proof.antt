@@ -1,6 +1,6 @@
 use lib.ListN.{length}
 use mir.Facts.{toZ-ofZ}
-use Rattle.line_turns.proofs.Laws.{read-failed, read-ended, read-some}
+use Rattle.line_turns.proofs.ReadResults.{read-failed, read-ended, read-some}
 use borrow.Author.Needs.{needs}
 use Rattle.line_turns.proofs.after_read.Statement.{statement}
 use Rattle.line_turns.proofs.after_read.Tie as tie

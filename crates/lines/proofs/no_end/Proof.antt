@@ -8,7 +8,7 @@ use lib.ListN.{length, drop}
 use borrow.Author.Tests.{eq-eqb, ne-eqb}
 use Rattle.texts.specs.Runs.{every}
 use Rattle.lines.specs.Taking.{inLine}
-use Rattle.lines.proofs.Laws.{every-passes, every-fails, every-end}
+use Rattle.lines.proofs.TakingParts.{every-passes, every-fails, every-end}
 use Rattle.lines.proofs.no_end.Statement.{statement}
 use Rattle.lines.proofs.no_end.Tie as tie
 

@@ -7,7 +7,7 @@ use borrow.Author.Needs.{needs}
 use borrow.Author.Tests.{lt-ltb, le-ltb}
 use Rattle.texts.specs.Runs.{run-le}
 use Rattle.lines.specs.Taking.{inLine}
-use Rattle.lines.proofs.Laws.{took}
+use Rattle.lines.proofs.TakingParts.{took}
 use Rattle.lines.proofs.take.Statement.{statement}
 use Rattle.lines.proofs.take.Tie as tie
 

@@ -7,7 +7,7 @@ use borrow.Author.Needs.{needs}
 use borrow.Author.Tests.{not-false}
 use Rattle.texts.specs.Runs.{run}
 use Rattle.lines.specs.Taking.{inLine}
-use Rattle.lines.proofs.Laws.{run-block}
+use Rattle.lines.proofs.TakingParts.{run-block}
 use Rattle.lines.proofs.whole_blocks.Statement.{statement}
 use Rattle.lines.proofs.whole_blocks.Tie as tie
 

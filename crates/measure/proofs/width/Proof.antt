@@ -4,7 +4,7 @@ use native.Mathlib.Omega.{arith}
 use lib.ListN.{length}
 use borrow.Author.Tests.{not-true, not-false}
 use Rattle.grammar.specs.Contents.{spansInside}
-use Rattle.measure.proofs.Laws.{too-long, bad-span, no-text, no-width, measured}
+use Rattle.measure.proofs.MeasureCases.{too-long, bad-span, no-text, no-width, measured}
 use borrow.Author.Needs.{needs}
 use Rattle.measure.proofs.width.Statement.{statement}
 use Rattle.measure.proofs.width.Tie as tie

@@ -2,7 +2,7 @@
 use Prim.Native.Nat.{_≤_}
 use mathlib.Core.Path.{sym, _∙_}
 use lib.ListN.{length}
-use Rattle.parts.proofs.Laws.{inside-true, inside-part, outside-part}
+use Rattle.parts.proofs.SpanTests.{inside-true, inside-part, outside-part}
 use borrow.Author.Needs.{needs}
 use Rattle.parts.proofs.part_of.Statement.{statement}
 use Rattle.parts.proofs.part_of.Tie as tie

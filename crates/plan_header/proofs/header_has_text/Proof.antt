@@ -1,7 +1,7 @@
 use mathlib.Core.Path.{_≡_, sym, _∙_}
 use mathlib.Core.Bool.{true, false}
 use Rattle.grammar.specs.Spans.{part, optionalPart}
-use Rattle.headers.specs.Canonical.{isGene}
+use Rattle.lang_headers.specs.Canonical.{isGene}
 use Rattle.plan_header.specs.HeaderText.{has-text}
 use borrow.Author.Needs.{needs}
 use Rattle.plan_header.proofs.header_has_text.Statement.{statement}

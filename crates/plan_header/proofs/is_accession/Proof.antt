@@ -1,4 +1,4 @@
-use Rattle.plan_header.proofs.Laws.{accession-empty, accession-whole}
+use Rattle.plan_header.proofs.WholeRuns.{accession-empty, accession-whole}
 use borrow.Author.Needs.{needs}
 use Rattle.plan_header.proofs.is_accession.Statement.{statement}
 use Rattle.plan_header.proofs.is_accession.Tie as tie

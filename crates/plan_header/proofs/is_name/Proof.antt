@@ -1,4 +1,4 @@
-use Rattle.plan_header.proofs.Laws.{name-empty, name-whole}
+use Rattle.plan_header.proofs.WholeRuns.{name-empty, name-whole}
 use borrow.Author.Needs.{needs}
 use Rattle.plan_header.proofs.is_name.Statement.{statement}
 use Rattle.plan_header.proofs.is_name.Tie as tie

@@ -3,7 +3,7 @@ use mir.Facts.{toZ-ofZ}
 use mir.Syntax.{w32}
 use mir.Val.{SFits}
 use Rattle.emit_piece.specs.declared.Amount.the-variants.{Count}
-use Rattle.plan_location.proofs.Laws.{held-true}
+use Rattle.plan_location.proofs.PlanCases.{held-true}
 use borrow.Author.Needs.{needs}
 use Rattle.plan_location.proofs.offset_amount.Statement.{statement}
 use Rattle.plan_location.proofs.offset_amount.Tie as tie

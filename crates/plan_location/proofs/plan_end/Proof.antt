@@ -1,7 +1,7 @@
 use mir.Facts.{toZ-ofZ}
 use mir.Syntax.{w32}
 use mir.Val.{SFits}
-use Rattle.plan_location.proofs.Laws.{end-planned}
+use Rattle.plan_location.proofs.PlanCases.{end-planned}
 use borrow.Author.Needs.{needs}
 use Rattle.plan_location.proofs.plan_end.Statement.{statement}
 use Rattle.plan_location.proofs.plan_end.Tie as tie

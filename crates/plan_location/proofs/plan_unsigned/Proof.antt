@@ -2,7 +2,7 @@ use mir.Facts.{toZ-ofZ}
 use mir.Syntax.{w32}
 use mir.Val.{SFits}
 use mathlib.Core.Path.{_∙_}
-use Rattle.plan_location.proofs.Laws.{unsigned-none, unsigned-some}
+use Rattle.plan_location.proofs.PlanCases.{unsigned-none, unsigned-some}
 use borrow.Author.Needs.{needs}
 use Rattle.plan_location.proofs.plan_unsigned.Statement.{statement}
 use Rattle.plan_location.proofs.plan_unsigned.Tie as tie

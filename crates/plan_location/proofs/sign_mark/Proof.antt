@@ -1,5 +1,5 @@
 use mir.Facts.{toZ-ofZ}
-use Rattle.plan_location.proofs.Laws.{below, not-below}
+use Rattle.plan_location.proofs.PlanCases.{below, not-below}
 use Rattle.plan_location.proofs.sign_mark.Statement.{statement}
 use Rattle.plan_location.proofs.sign_mark.Tie as tie
 

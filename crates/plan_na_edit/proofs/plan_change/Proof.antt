@@ -7,27 +7,27 @@ use Rattle.plan_na_edit.proofs.plan_change.Tie as tie
 same-parts-requires : tie.Need-same-parts-requires
 same-parts-requires c κs = search needs
 
-letters-row-requires : tie.Need-letters-row-requires
-letters-row-requires c κs = search needs
+letters-edit-requires : tie.Need-letters-edit-requires
+letters-edit-requires c κs = search needs
 
 returns : tie.Need-returns
 unfolding planChange
 returns c =
     let t = c .before in
-    rw (sym (t .before .same-parts .ensures) ∙ t .if1 .taken, c .letters-row .ensures)
+    rw (sym (t .before .same-parts .ensures) ∙ t .if1 .taken, c .letters-edit .ensures)
 
 one-each-parts-requires : tie.Need-one-each-parts-requires
 one-each-parts-requires c κs = search needs
 
-letters-row-requires-2 : tie.Need-letters-row-requires-2
-letters-row-requires-2 c κs = search needs
+letters-edit-requires-2 : tie.Need-letters-edit-requires-2
+letters-edit-requires-2 c κs = search needs
 
 returns-2 : tie.Need-returns-2
 unfolding planChange
 returns-2 c =
     let t = c .before in
     let e = t .before .before in
-    rw (sym (e .before .same-parts .ensures) ∙ e .if1 .left, sym (t .before .one-each-parts .ensures) ∙ t .if2 .taken, c .letters-row2 .ensures)
+    rw (sym (e .before .same-parts .ensures) ∙ e .if1 .left, sym (t .before .one-each-parts .ensures) ∙ t .if2 .taken, c .letters-edit2 .ensures)
 
 is-some-requires : tie.Need-is-some-requires
 is-some-requires c κs = search needs
@@ -35,8 +35,8 @@ is-some-requires c κs = search needs
 del-ins-row-requires : tie.Need-del-ins-row-requires
 del-ins-row-requires c κs = search needs
 
-row-if-requires : tie.Need-row-if-requires
-row-if-requires c κs = search needs
+edit-if-requires : tie.Need-edit-if-requires
+edit-if-requires c κs = search needs
 
 returns-3 : tie.Need-returns-3
 unfolding planChange
@@ -46,19 +46,19 @@ returns-3 c =
     let t = i .before in
     let e = t .before .before in
     rw (sym (e .before .same-parts .ensures) ∙ e .if1 .left, sym (t .before .one-each-parts .ensures) ∙ t .if2 .left)
-    (c .row-if .ensures ∙ rw (i .is-some .ensures, d .del-ins-row .ensures))
+    (c .edit-if .ensures ∙ rw (i .is-some .ensures, d .del-ins-row .ensures))
 
 pub plan-change-spec : {M : Type 1} → statement M
 plan-change-spec =
     tie.close
     (tie.spec
     same-parts-requires
-    letters-row-requires
+    letters-edit-requires
     returns
     one-each-parts-requires
-    letters-row-requires-2
+    letters-edit-requires-2
     returns-2
     is-some-requires
     del-ins-row-requires
-    row-if-requires
+    edit-if-requires
     returns-3)

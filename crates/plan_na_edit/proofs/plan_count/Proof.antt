@@ -13,15 +13,15 @@ magnitude-requires c κs = search needs
 count-row-requires : tie.Need-count-row-requires
 count-row-requires c κs = search needs
 
-row-if-requires : tie.Need-row-if-requires
-row-if-requires c κs = search needs
+edit-if-requires : tie.Need-edit-if-requires
+edit-if-requires c κs = search needs
 
 returns : tie.Need-returns
 returns c =
     let k = c .before in
     let m = k .before in
     let u = m .before in
-    c .row-if .ensures ∙ rw (k .count-row .ensures, m .magnitude .ensures, u .is-unsigned .ensures, toZ-ofZ (u .before .fits .n))
+    c .edit-if .ensures ∙ rw (k .count-row .ensures, m .magnitude .ensures, u .is-unsigned .ensures, toZ-ofZ (u .before .fits .n))
 
 pub plan-count-spec : {M : Type 1} → statement M
 plan-count-spec =
@@ -30,5 +30,5 @@ plan-count-spec =
     is-unsigned-requires
     magnitude-requires
     count-row-requires
-    row-if-requires
+    edit-if-requires
     returns)

@@ -6,14 +6,14 @@ use Rattle.plan_na_edit.proofs.plan_ins.Tie as tie
 is-seq1-requires : tie.Need-is-seq1-requires
 is-seq1-requires c κs = search needs
 
-word-row-requires : tie.Need-word-row-requires
-word-row-requires c κs = search needs
+word-edit-requires : tie.Need-word-edit-requires
+word-edit-requires c κs = search needs
 
-row-if-requires : tie.Need-row-if-requires
-row-if-requires c κs = search needs
+edit-if-requires : tie.Need-edit-if-requires
+edit-if-requires c κs = search needs
 
 returns : tie.Need-returns
-returns c = c .row-if .ensures ∙ rw (c .before .before .is-seq1 .ensures, c .before .word-row .ensures)
+returns c = c .edit-if .ensures ∙ rw (c .before .before .is-seq1 .ensures, c .before .word-edit .ensures)
 
 pub plan-ins-spec : {M : Type 1} → statement M
-plan-ins-spec = tie.close (tie.spec is-seq1-requires word-row-requires row-if-requires returns)
+plan-ins-spec = tie.close (tie.spec is-seq1-requires word-edit-requires edit-if-requires returns)

@@ -6,14 +6,14 @@ use Rattle.plan_na_edit.proofs.plan_seq.Tie as tie
 is-seq-requires : tie.Need-is-seq-requires
 is-seq-requires c κs = search needs
 
-word-row-requires : tie.Need-word-row-requires
-word-row-requires c κs = search needs
+word-edit-requires : tie.Need-word-edit-requires
+word-edit-requires c κs = search needs
 
-row-if-requires : tie.Need-row-if-requires
-row-if-requires c κs = search needs
+edit-if-requires : tie.Need-edit-if-requires
+edit-if-requires c κs = search needs
 
 returns : tie.Need-returns
-returns c = c .row-if .ensures ∙ rw (c .before .before .is-seq .ensures, c .before .word-row .ensures)
+returns c = c .edit-if .ensures ∙ rw (c .before .before .is-seq .ensures, c .before .word-edit .ensures)
 
 pub plan-seq-spec : {M : Type 1} → statement M
-plan-seq-spec = tie.close (tie.spec is-seq-requires word-row-requires row-if-requires returns)
+plan-seq-spec = tie.close (tie.spec is-seq-requires word-edit-requires edit-if-requires returns)

@@ -11,8 +11,8 @@ no-ref-alt-requires c κs = search needs
 enum-known-e-2 : tie.Need-enum-known-e-2
 enum-known-e-2 c = search needs
 
-word-row-requires : tie.Need-word-row-requires
-word-row-requires c κs = search needs
+word-edit-requires : tie.Need-word-edit-requires
+word-edit-requires c κs = search needs
 
 enum-told : tie.Need-enum-told
 enum-told c = search needs
@@ -29,8 +29,8 @@ word-alone-requires-2 c κs = search needs
 enum-known-e-3 : tie.Need-enum-known-e-3
 enum-known-e-3 c = search needs
 
-word-row-requires-2 : tie.Need-word-row-requires-2
-word-row-requires-2 c κs = search needs
+word-edit-requires-2 : tie.Need-word-edit-requires-2
+word-edit-requires-2 c κs = search needs
 
 enum-told-3 : tie.Need-enum-told-3
 enum-told-3 c = search needs
@@ -54,7 +54,7 @@ returns : tie.Need-returns
 returns c = rw (c .before .before .e .given .1) (c .no-ref-alt .ensures)
 
 returns-2 : tie.Need-returns-2
-returns-2 c = rw (c .before .before .e2 .given .1) (c .word-row .ensures)
+returns-2 c = rw (c .before .before .e2 .given .1) (c .word-edit .ensures)
 
 returns-3 : tie.Need-returns-3
 returns-3 c = rw (c .before .enum-told .given .1) (c .word-alone .ensures)
@@ -63,7 +63,7 @@ returns-4 : tie.Need-returns-4
 returns-4 c = rw (c .before .enum-told2 .given .1) (c .word-alone2 .ensures)
 
 returns-5 : tie.Need-returns-5
-returns-5 c = rw (c .before .before .e3 .given .1) (c .word-row2 .ensures)
+returns-5 c = rw (c .before .before .e3 .given .1) (c .word-edit2 .ensures)
 
 returns-6 : tie.Need-returns-6
 returns-6 c = rw (c .before .enum-told3 .given .1) (c .word-alone3 .ensures)
@@ -81,13 +81,13 @@ no-ref-spec =
     enum-known-e
     no-ref-alt-requires
     enum-known-e-2
-    word-row-requires
+    word-edit-requires
     enum-told
     word-alone-requires
     enum-told-2
     word-alone-requires-2
     enum-known-e-3
-    word-row-requires-2
+    word-edit-requires-2
     enum-told-3
     word-alone-requires-3
     enum-told-4

@@ -19,25 +19,25 @@ returns c =
 one-each-parts-requires : tie.Need-one-each-parts-requires
 one-each-parts-requires c κs = search needs
 
-letters-row-requires : tie.Need-letters-row-requires
-letters-row-requires c κs = search needs
+letters-edit-requires : tie.Need-letters-edit-requires
+letters-edit-requires c κs = search needs
 
 returns-2 : tie.Need-returns-2
 unfolding noRefAlt
 returns-2 c =
     let t = c .before in
     let e = t .before .before in
-    rw (sym (e .before .same-parts .ensures) ∙ e .if1 .left, sym (t .before .one-each-parts .ensures) ∙ t .if2 .taken) (c .letters-row .ensures)
+    rw (sym (e .before .same-parts .ensures) ∙ e .if1 .left, sym (t .before .one-each-parts .ensures) ∙ t .if2 .taken) (c .letters-edit .ensures)
 
-word-row-requires : tie.Need-word-row-requires
-word-row-requires c κs = search needs
+word-edit-requires : tie.Need-word-edit-requires
+word-edit-requires c κs = search needs
 
 returns-3 : tie.Need-returns-3
 unfolding noRefAlt
 returns-3 c =
     let t = c .before in
     let e = t .before .before in
-    rw (sym (e .before .same-parts .ensures) ∙ e .if1 .left, sym (t .before .one-each-parts .ensures) ∙ t .if2 .left) (c .word-row .ensures)
+    rw (sym (e .before .same-parts .ensures) ∙ e .if1 .left, sym (t .before .one-each-parts .ensures) ∙ t .if2 .left) (c .word-edit .ensures)
 
 pub no-ref-alt-spec : {M : Type 1} → statement M
 no-ref-alt-spec =
@@ -47,7 +47,7 @@ no-ref-alt-spec =
     word-alone-requires
     returns
     one-each-parts-requires
-    letters-row-requires
+    letters-edit-requires
     returns-2
-    word-row-requires
+    word-edit-requires
     returns-3)

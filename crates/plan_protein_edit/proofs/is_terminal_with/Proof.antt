@@ -1,6 +1,6 @@
 use mathlib.Core.Path.{ap, _∙_}
 use Rattle.texts.specs.Tests.{both-fail, both-next}
-use Rattle.protein_edit_tests.specs.Tests.{isTerminal}
+use Rattle.plan_protein_tests.specs.Tests.{isTerminal}
 use borrow.Author.Needs.{needs}
 use Rattle.plan_protein_edit.proofs.is_terminal_with.Statement.{statement}
 use Rattle.plan_protein_edit.proofs.is_terminal_with.Tie as tie

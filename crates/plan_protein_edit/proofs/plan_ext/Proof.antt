@@ -31,8 +31,8 @@ is-earlier-requires c κs = search needs
 end-row-requires-2 : tie.Need-end-row-requires-2
 end-row-requires-2 c κs = search needs
 
-row-if-requires : tie.Need-row-if-requires
-row-if-requires c κs = search needs
+edit-if-requires : tie.Need-edit-if-requires
+edit-if-requires c κs = search needs
 
 returns-3 : tie.Need-returns-3
 unfolding planExt
@@ -41,7 +41,7 @@ returns-3 c =
     let f = x .before .before in
     let e = f .before .before in
     rw (sym (e .before .is-optional .ensures) ∙ not-false _ (e .if1 .left), sym (f .before .is-stop .ensures) ∙ f .if2 .left)
-    (c .row-if .ensures ∙ rw (x .before .is-earlier .ensures, x .end-row2 .ensures))
+    (c .edit-if .ensures ∙ rw (x .before .is-earlier .ensures, x .end-row2 .ensures))
 
 pub plan-ext-spec : {M : Type 1} → statement M
 plan-ext-spec =
@@ -54,5 +54,5 @@ plan-ext-spec =
     returns-2
     is-earlier-requires
     end-row-requires-2
-    row-if-requires
+    edit-if-requires
     returns-3)

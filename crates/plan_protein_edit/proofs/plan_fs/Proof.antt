@@ -18,8 +18,8 @@ is-stop-requires c κs = search needs
 end-row-requires : tie.Need-end-row-requires
 end-row-requires c κs = search needs
 
-row-if-requires : tie.Need-row-if-requires
-row-if-requires c κs = search needs
+edit-if-requires : tie.Need-edit-if-requires
+edit-if-requires c κs = search needs
 
 returns-2 : tie.Need-returns-2
 unfolding planFs
@@ -27,7 +27,7 @@ returns-2 c =
     let x = c .before in
     let e = x .before .before in
     rw (sym (e .before .is-optional .ensures) ∙ not-false _ (e .if1 .left))
-    (c .row-if .ensures ∙ rw (x .before .is-stop .ensures, x .end-row .ensures))
+    (c .edit-if .ensures ∙ rw (x .before .is-stop .ensures, x .end-row .ensures))
 
 pub plan-fs-spec : {M : Type 1} → statement M
 plan-fs-spec =
@@ -37,5 +37,5 @@ plan-fs-spec =
     returns
     is-stop-requires
     end-row-requires
-    row-if-requires
+    edit-if-requires
     returns-2)

@@ -6,18 +6,18 @@ use Rattle.plan_protein_edit.proofs.plan_subst.Tie as tie
 is-subst-requires : tie.Need-is-subst-requires
 is-subst-requires c κs = search needs
 
-letters-row-requires : tie.Need-letters-row-requires
-letters-row-requires c κs = search needs
+letters-edit-requires : tie.Need-letters-edit-requires
+letters-edit-requires c κs = search needs
 
-row-if-requires : tie.Need-row-if-requires
-row-if-requires c κs = search needs
+edit-if-requires : tie.Need-edit-if-requires
+edit-if-requires c κs = search needs
 
 returns : tie.Need-returns
 returns c =
     let l = c .before in
-    c .row-if .ensures ∙ rw (l .before .is-subst .ensures, l .letters-row .ensures)
+    c .edit-if .ensures ∙ rw (l .before .is-subst .ensures, l .letters-edit .ensures)
 
 pub plan-subst-spec : {M : Type 1} → statement M
 plan-subst-spec =
     tie.close
-    (tie.spec is-subst-requires letters-row-requires row-if-requires returns)
+    (tie.spec is-subst-requires letters-edit-requires edit-if-requires returns)

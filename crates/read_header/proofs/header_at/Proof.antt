@@ -4,7 +4,7 @@ use native.Mathlib.Omega.{arith}
 use borrow.Author.Needs.{needs}
 use lib.ListN.{length}
 use Rattle.header_lengths.specs.Lengths.{accession-le}
-use Rattle.read_header.proofs.Laws.{gene-le, no-header, header-plain, header-gene}
+use Rattle.read_header.proofs.HeaderCases.{gene-le, no-header, header-plain, header-gene}
 use Rattle.read_header.proofs.header_at.Statement.{statement}
 use Rattle.read_header.proofs.header_at.Tie as tie
 

@@ -1,5 +1,5 @@
-use Rattle.read_header.specs.Answer.{kindAnswer}
-use Rattle.read_header.proofs.Laws.{kind-short, no-colon, no-stop, kind-letter}
+use Rattle.read_header.specs.HeaderAnswers.{kindAnswer}
+use Rattle.read_header.proofs.HeaderCases.{kind-short, no-colon, no-stop, kind-letter}
 use borrow.Author.Needs.{needs}
 use Rattle.read_header.proofs.kind_at.Statement.{statement}
 use Rattle.read_header.proofs.kind_at.Tie as tie

@@ -1,5 +1,5 @@
-use Rattle.read_header.specs.Answer.{kindOf, kindAnswer}
-use Rattle.read_header.proofs.Laws.{no-letter}
+use Rattle.read_header.specs.HeaderAnswers.{kindOf, kindAnswer}
+use Rattle.read_header.proofs.HeaderCases.{no-letter}
 use Rattle.read_header.proofs.kind_of.Statement.{statement}
 use Rattle.read_header.proofs.kind_of.Tie as tie
 

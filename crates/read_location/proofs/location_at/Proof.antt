@@ -6,11 +6,11 @@ use lib.ListN.{length}
 use borrow.Author.Needs.{needs}
 use Rattle.texts.specs.Slices.{tail, tail-room}
 use Rattle.texts.specs.Brackets.{opening-le}
-use Rattle.scan.specs.MuAnswers.{mu-none, mu-le, mu-bare, mu-closed, mu-missing}
+use Rattle.read_scan.specs.MuAccounts.{mu-none, mu-le, mu-bare, mu-closed, mu-missing}
 use Rattle.record.specs.declared.Kind.{Kind}
-use Rattle.location.specs.Languages.{endsLang}
+use Rattle.lang_locations.specs.Languages.{endsLang}
 use Rattle.read_location.specs.declared.LocationRead.the-variants.{Nothing, Found}
-use Rattle.read_location.specs.Answer.{intervalAnswer}
+use Rattle.read_location.specs.LocationAnswers.{intervalAnswer}
 use Rattle.read_location.specs.Told.{location-cases, bracketed}
 use Rattle.read_location.proofs.location_at.Statement.{statement}
 use Rattle.read_location.proofs.location_at.Tie as tie

@@ -1,6 +1,6 @@
 use mathlib.Core.Path.{_∙_}
 use native.Mathlib.Omega.{arith}
-use Rattle.scan.specs.Reading.{number-le}
+use Rattle.read_scan.specs.Reading.{number-le}
 use Rattle.read_location.proofs.Positions.{behind-none, behind-some}
 use borrow.Author.Needs.{needs}
 use Rattle.read_location.proofs.offset_behind.Statement.{statement}

@@ -1,6 +1,6 @@
-use Rattle.read_na_body.proofs.Laws.{made-cds, made-genome, made-mt, made-tx, made-rna}
+use Rattle.read_na_body.proofs.NaBodyCases.{made-cds, made-genome, made-mt, made-tx, made-rna}
 use mathlib.Core.Path.{sym, ap}
-use Rattle.read_na_body.specs.Answer.{locEdit}
+use Rattle.read_na_body.specs.NaBodyAnswers.{locEdit}
 use borrow.Author.Needs.{needs}
 use Rattle.read_na_body.proofs.loc_edit.Statement.{statement}
 use Rattle.read_na_body.proofs.loc_edit.Tie as tie

@@ -6,7 +6,7 @@ use Rattle.texts.specs.Slices.{tail-room}
 use Rattle.record.specs.declared.Kind.{Kind}
 use Rattle.read_location.specs.Told.{LocationTold, location-told, location-unread, location-within}
 use Rattle.read_na_edit.specs.Told.{MuTold, mu-told, mu-unread}
-use Rattle.read_na_body.proofs.Laws.{no-location, no-edit, edit-le, not-ended, body-found}
+use Rattle.read_na_body.proofs.NaBodyCases.{no-location, no-edit, edit-le, not-ended, body-found}
 use borrow.Author.Needs.{needs}
 use Rattle.read_na_body.proofs.na_body.Statement.{statement}
 use Rattle.read_na_body.proofs.na_body.Tie as tie

@@ -8,11 +8,11 @@ use Rattle.texts.specs.Runs.{front, behind, front-length}
 use Rattle.alphabet.specs.Letters.{nucleotide}
 use Rattle.alphabet.specs.Classes.{member}
 use Rattle.record.specs.declared.NaEdit.the-variants.{DelRef}
-use Rattle.grammar.specs.NucleotideEdits.{NaEdit.del}
-use Rattle.na_edits.specs.Parse.{inserted}
-use Rattle.scan.specs.Reading.{number-len}
+use Rattle.grammar.specs.NucleotideEdits.{NaEditTree.del}
+use Rattle.lang_na_edits.specs.Parse.{inserted}
+use Rattle.read_scan.specs.Reading.{number-len}
 use Rattle.read_na_edit.proofs.Found.{found-word, found-del-ins}
-use Rattle.read_na_edit.proofs.Laws.{counted-le, inserted-behind, inserted-within, del-ins, del-digits, del-letters}
+use Rattle.read_na_edit.proofs.NaEditCases.{counted-le, inserted-behind, inserted-within, del-ins, del-digits, del-letters}
 use borrow.Author.Needs.{needs}
 use Rattle.read_na_edit.proofs.after_del.Statement.{statement}
 use Rattle.read_na_edit.proofs.after_del.Tie as tie

@@ -7,11 +7,11 @@ use Rattle.texts.specs.Ascii.{ascii}
 use Rattle.texts.specs.Runs.{front, behind}
 use Rattle.alphabet.specs.Letters.{digit, nucleotide}
 use Rattle.record.specs.declared.NaEdit.the-variants.{DelNum}
-use Rattle.grammar.specs.NucleotideEdits.{NaEdit.delNum}
-use Rattle.na_edits.specs.Parse.{inserted}
-use Rattle.scan.specs.Reading.{number-run, number-le}
+use Rattle.grammar.specs.NucleotideEdits.{NaEditTree.delNum}
+use Rattle.lang_na_edits.specs.Parse.{inserted}
+use Rattle.read_scan.specs.Reading.{number-run, number-le}
 use Rattle.read_na_edit.proofs.Found.{found-number, found-num-ins}
-use Rattle.read_na_edit.proofs.Laws.{inserted-behind, inserted-within, del-num, del-num-ins}
+use Rattle.read_na_edit.proofs.NaEditCases.{inserted-behind, inserted-within, del-num, del-num-ins}
 use borrow.Author.Needs.{needs}
 use Rattle.read_na_edit.proofs.after_del_num.Statement.{statement}
 use Rattle.read_na_edit.proofs.after_del_num.Tie as tie

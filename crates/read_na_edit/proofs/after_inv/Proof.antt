@@ -8,10 +8,10 @@ use Rattle.texts.specs.Runs.{front, front-length}
 use Rattle.alphabet.specs.Letters.{digit, nucleotide}
 use Rattle.alphabet.specs.Classes.{member}
 use Rattle.record.specs.declared.NaEdit.the-variants.{InvRef, InvNum}
-use Rattle.grammar.specs.NucleotideEdits.{NaEdit.invNum, NaEdit.inv}
-use Rattle.scan.specs.Reading.{number-len, number-le}
+use Rattle.grammar.specs.NucleotideEdits.{NaEditTree.invNum, NaEditTree.inv}
+use Rattle.read_scan.specs.Reading.{number-len, number-le}
 use Rattle.read_na_edit.proofs.Found.{found-word, found-number}
-use Rattle.read_na_edit.proofs.Laws.{counted-le, inv-digits, inv-letters}
+use Rattle.read_na_edit.proofs.NaEditCases.{counted-le, inv-digits, inv-letters}
 use borrow.Author.Needs.{needs}
 use Rattle.read_na_edit.proofs.after_inv.Statement.{statement}
 use Rattle.read_na_edit.proofs.after_inv.Tie as tie

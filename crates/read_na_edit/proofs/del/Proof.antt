@@ -4,8 +4,8 @@ use mathlib.Core.Bool.{true}
 use Rattle.texts.specs.Ascii.{ascii}
 use Rattle.texts.specs.Words.{starts}
 use Rattle.alphabet.specs.Letters.{nucleotide}
-use Rattle.na_edits.specs.Parse.{afterDel, parseDel}
-use Rattle.read_na_edit.proofs.Laws.{word-long, word-room, word-found, word-nothing}
+use Rattle.lang_na_edits.specs.Parse.{afterDel, parseDel}
+use Rattle.read_na_edit.proofs.NaEditCases.{word-long, word-room, word-found, word-nothing}
 use borrow.Author.Needs.{needs}
 use Rattle.read_na_edit.proofs.del.Statement.{statement}
 use Rattle.read_na_edit.proofs.del.Tie as tie

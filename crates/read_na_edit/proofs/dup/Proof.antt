@@ -11,9 +11,9 @@ use Rattle.alphabet.specs.Letters.{nucleotide}
 use Rattle.alphabet.specs.Classes.{member}
 use Rattle.record.specs.declared.NaEdit.the-variants.{Dup}
 use Rattle.grammar.specs.NucleotideEdits as Tree
-use Rattle.na_edits.specs.Parse.{parseDup}
+use Rattle.lang_na_edits.specs.Parse.{parseDup}
 use Rattle.read_na_edit.proofs.Found.{found-word}
-use Rattle.read_na_edit.proofs.Laws.{counted-le, word-long, word-room, word-found, word-nothing}
+use Rattle.read_na_edit.proofs.NaEditCases.{counted-le, word-long, word-room, word-found, word-nothing}
 use borrow.Author.Needs.{needs}
 use Rattle.read_na_edit.proofs.dup.Statement.{statement}
 use Rattle.read_na_edit.proofs.dup.Tie as tie
@@ -65,12 +65,12 @@ returns c =
     let m = c .before .before in
     let s = m .before .before .before .before .before .before .args .s .now in
     let x = take (length s - 3) (drop 3 s) in
-    word-found _ (ascii "dup") (λ x. Tree.NaEdit.dup (front nucleotide x)) s refl (is-dup (m .before .before)) _
-    (found-word _ _ (c .no-faults .ensures) _ (front nucleotide x) _ (m .run-of .ensures ∙ sym (front-length nucleotide x)) (c .before .span .ensures) Dup (Tree.NaEdit.dup (front nucleotide x)) (ascii "dup") refl refl refl refl refl)
+    word-found _ (ascii "dup") (λ x. Tree.NaEditTree.dup (front nucleotide x)) s refl (is-dup (m .before .before)) _
+    (found-word _ _ (c .no-faults .ensures) _ (front nucleotide x) _ (m .run-of .ensures ∙ sym (front-length nucleotide x)) (c .before .span .ensures) Dup (Tree.NaEditTree.dup (front nucleotide x)) (ascii "dup") refl refl refl refl refl)
 
 returns-2 : tie.Need-returns-2
 unfolding parseDup
-returns-2 c = word-nothing _ (ascii "dup") (λ x. Tree.NaEdit.dup (front nucleotide x)) _ (sym (c .before .begins .ensures) ∙ c .if1 .left)
+returns-2 c = word-nothing _ (ascii "dup") (λ x. Tree.NaEditTree.dup (front nucleotide x)) _ (sym (c .before .begins .ensures) ∙ c .if1 .left)
 
 pub dup-spec : {M : Type 1} → statement M
 dup-spec =

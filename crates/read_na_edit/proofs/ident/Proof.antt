@@ -8,10 +8,10 @@ use Rattle.texts.specs.Runs.{front, behind, front-length}
 use Rattle.texts.specs.Words.{starts}
 use Rattle.alphabet.specs.Letters.{nucleotide}
 use Rattle.alphabet.specs.Classes.{member}
-use Rattle.scan.specs.Answers.{answered}
-use Rattle.read_na_edit.specs.Answer.{naEditAnswer}
+use Rattle.read_scan.specs.Accounts.{answered}
+use Rattle.read_na_edit.specs.NaEditAnswers.{naEditAnswer}
 use Rattle.read_na_edit.proofs.Found.{found-equal}
-use Rattle.read_na_edit.proofs.Laws.{part-behind, counted-le, ident-some, ident-none}
+use Rattle.read_na_edit.proofs.NaEditCases.{part-behind, counted-le, ident-some, ident-none}
 use borrow.Author.Needs.{needs}
 use Rattle.read_na_edit.proofs.ident.Statement.{statement}
 use Rattle.read_na_edit.proofs.ident.Tie as tie

@@ -7,11 +7,11 @@ use Rattle.texts.specs.Ascii.{ascii}
 use Rattle.alphabet.specs.Letters.{nucleotide}
 use Rattle.record.specs.declared.NaEdit.the-variants.{Ins}
 use Rattle.grammar.specs.NucleotideEdits as Tree
-use Rattle.na_edits.specs.Parse.{inserted}
-use Rattle.scan.specs.Answers.{answered}
-use Rattle.read_na_edit.specs.Answer.{naEditAnswer}
+use Rattle.lang_na_edits.specs.Parse.{inserted}
+use Rattle.read_scan.specs.Accounts.{answered}
+use Rattle.read_na_edit.specs.NaEditAnswers.{naEditAnswer}
 use Rattle.read_na_edit.proofs.Found.{found-word}
-use Rattle.read_na_edit.proofs.Laws.{inserted-le, ins-none, ins-some}
+use Rattle.read_na_edit.proofs.NaEditCases.{inserted-le, ins-none, ins-some}
 use borrow.Author.Needs.{needs}
 use Rattle.read_na_edit.proofs.ins.Statement.{statement}
 use Rattle.read_na_edit.proofs.ins.Tie as tie
@@ -43,7 +43,7 @@ returns-2 c =
     let i = c .before .before .before in
     let s = i .before .before .args .s .now in
     rw (ins-some nucleotide s (λ z. c .before .before .if1 .left (i .inserted .ensures ∙ z)))
-    (found-word _ _ (c .no-faults .ensures) _ (inserted nucleotide s) _ (i .inserted .ensures) (c .before .span .ensures) Ins (Tree.NaEdit.ins (inserted nucleotide s)) (ascii "ins") refl refl refl refl refl)
+    (found-word _ _ (c .no-faults .ensures) _ (inserted nucleotide s) _ (i .inserted .ensures) (c .before .span .ensures) Ins (Tree.NaEditTree.ins (inserted nucleotide s)) (ascii "ins") refl refl refl refl refl)
 
 pub ins-spec : {M : Type 1} → statement M
 ins-spec =

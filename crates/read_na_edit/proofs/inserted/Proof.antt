@@ -5,7 +5,7 @@ use Rattle.texts.specs.Ascii.{ascii}
 use Rattle.texts.specs.Words.{starts}
 use Rattle.alphabet.specs.Letters.{nucleotide}
 use Rattle.alphabet.specs.Classes.{member}
-use Rattle.read_na_edit.proofs.Laws.{word-long, inserted-some, inserted-none}
+use Rattle.read_na_edit.proofs.NaEditCases.{word-long, inserted-some, inserted-none}
 use borrow.Author.Needs.{needs}
 use Rattle.read_na_edit.proofs.inserted.Statement.{statement}
 use Rattle.read_na_edit.proofs.inserted.Tie as tie

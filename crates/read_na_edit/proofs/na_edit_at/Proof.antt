@@ -4,30 +4,30 @@ use mathlib.Core.Path.{_≡_, _∙_}
 use mathlib.Core.List.{List}
 use mathlib.Core.Option.{Option}
 use Rattle.alphabet.specs.Letters.{nucleotide}
-use Rattle.grammar.specs.NucleotideEdits.{NaEdit}
+use Rattle.grammar.specs.NucleotideEdits.{NaEditTree}
 use Rattle.lang.specs.Choice.{orNext}
-use Rattle.na_edits.specs.Parse.{parseIdent, parseSubst, parseDel, parseIns, parseDup, parseInv, parseNaEdit}
-use Rattle.read_na_edit.specs.Answer.{naEditAnswer}
-use Rattle.read_na_edit.proofs.Laws.{or-found, or-nothing}
+use Rattle.lang_na_edits.specs.Parse.{parseIdent, parseSubst, parseDel, parseIns, parseDup, parseInv, parseNaEdit}
+use Rattle.read_na_edit.specs.NaEditAnswers.{naEditAnswer}
+use Rattle.read_na_edit.proofs.NaEditCases.{or-found, or-nothing}
 use borrow.Author.Needs.{needs}
 use Rattle.read_na_edit.proofs.na_edit_at.Statement.{statement}
 use Rattle.read_na_edit.proofs.na_edit_at.Tie as tie
 
 -- the alternatives from one on
-abbrev fromDup : List ℕ → Option NaEdit
+abbrev fromDup : List ℕ → Option NaEditTree
 fromDup s = orNext (parseDup nucleotide s) (parseInv nucleotide s)
 
-abbrev fromIns : List ℕ → Option NaEdit
+abbrev fromIns : List ℕ → Option NaEditTree
 fromIns s = orNext (parseIns nucleotide s) (fromDup s)
 
-abbrev fromDel : List ℕ → Option NaEdit
+abbrev fromDel : List ℕ → Option NaEditTree
 fromDel s = orNext (parseDel nucleotide s) (fromIns s)
 
-abbrev fromSubst : List ℕ → Option NaEdit
+abbrev fromSubst : List ℕ → Option NaEditTree
 fromSubst s = orNext (parseSubst nucleotide s) (fromDel s)
 
 -- the answer is that of the alternatives that are left
-abbrev Left : tie.Start → (List ℕ → Option NaEdit) → Type 0
+abbrev Left : tie.Start → (List ℕ → Option NaEditTree) → Type 0
 Left a from = naEditAnswer (a .args .at) (from (a .args .s .now)) ≡ naEditAnswer (a .args .at) (parseNaEdit nucleotide (a .args .s .now))
 
 no-ident : (c : tie.After-enum-told) → Left (c .before .before .before .before) fromSubst

@@ -6,10 +6,10 @@ use lib.ListN.{getD}
 use borrow.Author.Tests.{ne-eqb, not-true, not-false}
 use Rattle.alphabet.specs.Letters.{nucleotide}
 use Rattle.alphabet.specs.Classes.{member}
-use Rattle.scan.specs.Answers.{answered}
-use Rattle.read_na_edit.specs.Answer.{naEditAnswer}
+use Rattle.read_scan.specs.Accounts.{answered}
+use Rattle.read_na_edit.specs.NaEditAnswers.{naEditAnswer}
 use Rattle.read_na_edit.proofs.Found.{found-swap}
-use Rattle.read_na_edit.proofs.Laws.{subst-short, subst-is}
+use Rattle.read_na_edit.proofs.NaEditCases.{subst-short, subst-is}
 use borrow.Author.Needs.{needs}
 use Rattle.read_na_edit.proofs.subst.Statement.{statement}
 use Rattle.read_na_edit.proofs.subst.Tie as tie

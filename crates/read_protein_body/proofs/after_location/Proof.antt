@@ -1,7 +1,7 @@
 use mathlib.Core.Path.{sym, _∙_}
 use native.Mathlib.Omega.{arith}
 use Rattle.read_protein_edit.specs.Told.{MuTold, mu-told}
-use Rattle.read_protein_body.proofs.Laws.{mu-none, mu-le, after-found}
+use Rattle.read_protein_body.proofs.ProteinBodyCases.{mu-none, mu-le, after-found}
 use borrow.Author.Needs.{needs}
 use Rattle.read_protein_body.proofs.after_location.Statement.{statement}
 use Rattle.read_protein_body.proofs.after_location.Tie as tie

@@ -7,7 +7,7 @@ use borrow.Author.Tests.{not-true, not-false}
 use Rattle.texts.specs.Ascii.{ascii}
 use Rattle.texts.specs.Words.{starts}
 use Rattle.read_protein_edit.specs.Told.{EditTold, edit-told}
-use Rattle.read_protein_body.proofs.Laws.{edit-none, edit-le, shut-le, not-shut, inside-found}
+use Rattle.read_protein_body.proofs.ProteinBodyCases.{edit-none, edit-le, shut-le, not-shut, inside-found}
 use borrow.Author.Needs.{needs}
 use Rattle.read_protein_body.proofs.inside_brackets.Statement.{statement}
 use Rattle.read_protein_body.proofs.inside_brackets.Tie as tie

@@ -8,7 +8,7 @@ use Rattle.texts.specs.Words.{starts}
 use Rattle.texts.specs.Slices.{tail-room}
 use Rattle.record.specs.declared.Kind.the-variants.{Prot}
 use Rattle.read_location.specs.Told.{IntervalTold, interval-told, interval-within}
-use Rattle.read_protein_body.proofs.Laws.{opened-none, closed-le, shut-found, brackets-found}
+use Rattle.read_protein_body.proofs.ProteinBodyCases.{opened-none, closed-le, shut-found, brackets-found}
 use borrow.Author.Needs.{needs}
 use Rattle.read_protein_body.proofs.opened.Statement.{statement}
 use Rattle.read_protein_body.proofs.opened.Tie as tie

@@ -5,7 +5,7 @@ use Rattle.texts.specs.Slices.{tail-room}
 use mathlib.Core.Bool.{true}
 use Prim.Native.Nat.{_≤_}
 use lib.ListN.{length}
-use Rattle.read_protein_body.proofs.Laws.{ordinary-opened, ordinary-plain}
+use Rattle.read_protein_body.proofs.ProteinBodyCases.{ordinary-opened, ordinary-plain}
 use borrow.Author.Needs.{needs}
 use Rattle.read_protein_body.proofs.ordinary.Statement.{statement}
 use Rattle.read_protein_body.proofs.ordinary.Tie as tie

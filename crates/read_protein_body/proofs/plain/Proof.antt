@@ -3,7 +3,7 @@ use native.Mathlib.Omega.{arith}
 use Rattle.record.specs.declared.Kind.the-variants.{Prot}
 use Rattle.read_location.specs.Told.{IntervalTold, interval-told, interval-within}
 use Rattle.texts.specs.Slices.{tail-room}
-use Rattle.read_protein_body.proofs.Laws.{plain-none, plain-found}
+use Rattle.read_protein_body.proofs.ProteinBodyCases.{plain-none, plain-found}
 use borrow.Author.Needs.{needs}
 use Rattle.read_protein_body.proofs.plain.Statement.{statement}
 use Rattle.read_protein_body.proofs.plain.Tie as tie

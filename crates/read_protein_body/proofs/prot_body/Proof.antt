@@ -1,7 +1,7 @@
 use mathlib.Core.Path.{_≡_, sym, _∙_}
-use Rattle.read_protein_body.proofs.Laws.{exact-told, exact-none, OrdinaryTold, ordinary-told, exact-found, body-none, body-open, body-found}
+use Rattle.read_protein_body.proofs.ProteinBodyCases.{exact-told, exact-none, OrdinaryTold, ordinary-told, exact-found, body-none, body-open, body-found}
 use mathlib.Core.Option.{none}
-use Rattle.bodies.specs.ProteinBodies.{exactBodies, firstExact}
+use Rattle.lang_bodies.specs.ProteinBodies.{exactBodies, firstExact}
 use borrow.Author.Needs.{needs}
 use Rattle.read_protein_body.proofs.prot_body.Statement.{statement}
 use Rattle.read_protein_body.proofs.prot_body.Tie as tie

@@ -3,7 +3,7 @@ use Prim.Native.Nat.{_+_, _≤_}
 use mathlib.Core.Path.{ap}
 use native.Mathlib.Omega.{arith}
 use lib.ListN.{length}
-use Rattle.protein_edits.specs.Parse.{stopAt}
+use Rattle.lang_protein_edits.specs.Parse.{stopAt}
 use Rattle.read_protein_edit.proofs.Ends.{stop-le, fs-found}
 use borrow.Author.Needs.{needs}
 use Rattle.read_protein_edit.proofs.fs.Statement.{statement}

@@ -8,7 +8,7 @@ use lib.ListN.{length}
 use Rattle.texts.specs.Slices.{tail}
 use Rattle.texts.specs.Ascii.{ascii}
 use Rattle.texts.specs.Words.{starts, starts-length}
-use Rattle.read_protein_edit.proofs.Laws.{front-le, word-room, found-fs, found-ext, found-equal, found-unknown, found-subst, found-worded}
+use Rattle.read_protein_edit.proofs.ProteinEditCases.{front-le, word-room, found-fs, found-ext, found-equal, found-unknown, found-subst, found-worded}
 use borrow.Author.Needs.{needs}
 use Rattle.read_protein_edit.proofs.protein_edit_at.Statement.{statement}
 use Rattle.read_protein_edit.proofs.protein_edit_at.Tie as tie

@@ -3,7 +3,7 @@ use mathlib.Core.Path.{_≡_, sym, _∙_}
 use mathlib.Core.Bool.{true}
 use borrow.Author.Tests.{not-true, not-false}
 use Rattle.texts.specs.Words.{starts, starts-length}
-use Rattle.read_protein_edit.proofs.Laws.{behind-is, behind-none}
+use Rattle.read_protein_edit.proofs.ProteinEditCases.{behind-is, behind-none}
 use borrow.Author.Needs.{needs}
 use Rattle.read_protein_edit.proofs.residues_behind.Statement.{statement}
 use Rattle.read_protein_edit.proofs.residues_behind.Tie as tie

@@ -6,7 +6,7 @@ use native.Mathlib.Omega.{arith}
 use lib.ListN.{length}
 use Rattle.texts.specs.Ascii.{ascii}
 use Rattle.texts.specs.Words.{starts}
-use Rattle.read_protein_edit.proofs.Laws.{behind-room, found-delins, found-del, found-ins, found-dup, found-nothing}
+use Rattle.read_protein_edit.proofs.ProteinEditCases.{behind-room, found-delins, found-del, found-ins, found-dup, found-nothing}
 use borrow.Author.Needs.{needs}
 use Rattle.read_protein_edit.proofs.worded.Statement.{statement}
 use Rattle.read_protein_edit.proofs.worded.Tie as tie

@@ -1,5 +1,5 @@
 use mathlib.Core.Path.{sym, _∙_}
-use Rattle.read_text.proofs.Laws.{nucleotide-says, protein-says}
+use Rattle.read_text.proofs.TextCases.{nucleotide-says, protein-says}
 use borrow.Author.Needs.{needs}
 use Rattle.read_text.proofs.body_at.Statement.{statement}
 use Rattle.read_text.proofs.body_at.Tie as tie

@@ -3,9 +3,9 @@ use native.Mathlib.Omega.{arith}
 use mathlib.Core.Option.{some}
 use Prim.Native.Nat.{_+_, _-_}
 use lib.ListN.{length, take, drop}
-use Rattle.headers.specs.Kinds.{kindLang}
+use Rattle.lang_headers.specs.Kinds.{kindLang}
 use Rattle.texts.specs.Slices.{tail-room}
-use Rattle.read_text.proofs.Laws.{HeaderTold, header-told, no-header, header-le, kind-told, no-kind, kind-le, no-body, text-found}
+use Rattle.read_text.proofs.TextCases.{HeaderTold, header-told, no-header, header-le, kind-told, no-kind, kind-le, no-body, text-found}
 use borrow.Author.Needs.{needs}
 use Rattle.read_text.proofs.hgvs_variant.Statement.{statement}
 use Rattle.read_text.proofs.hgvs_variant.Tie as tie

@@ -1,5 +1,5 @@
 use mathlib.Core.Path.{sym, _∙_}
-use Rattle.reader.proofs.Laws.{TextTold, text-told, too-long, reads-nothing, reads-unfit, reads-accepted}
+use Rattle.reader.proofs.ReadingCases.{TextTold, text-told, too-long, reads-nothing, reads-unfit, reads-accepted}
 use borrow.Author.Needs.{needs}
 use Rattle.reader.proofs.reading_of.Statement.{statement}
 use Rattle.reader.proofs.reading_of.Tie as tie

@@ -1,6 +1,6 @@
 -- Each kind has the spans of its edit, and p those of its location too.
 use Rattle.grammar.specs.Contents.{bodyInside}
-use Rattle.record_inside.proofs.Laws.{told}
+use Rattle.record_inside.proofs.ArmTests.{told}
 use borrow.Author.Needs.{needs}
 use Rattle.record_inside.proofs.body_inside.Statement.{statement}
 use Rattle.record_inside.proofs.body_inside.Tie as tie

@@ -1,6 +1,6 @@
 -- Brackets have no span.
 use Rattle.grammar.specs.Contents.{muNaEditInside}
-use Rattle.record_inside.proofs.Laws.{told}
+use Rattle.record_inside.proofs.ArmTests.{told}
 use borrow.Author.Needs.{needs}
 use Rattle.record_inside.proofs.mu_na_edit_inside.Statement.{statement}
 use Rattle.record_inside.proofs.mu_na_edit_inside.Tie as tie

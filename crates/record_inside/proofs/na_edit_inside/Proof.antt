@@ -1,6 +1,6 @@
 -- Each edit has its spans.
 use Rattle.grammar.specs.Contents.{naEditInside}
-use Rattle.record_inside.proofs.Laws.{told}
+use Rattle.record_inside.proofs.ArmTests.{told}
 use borrow.Author.Needs.{needs}
 use Rattle.record_inside.proofs.na_edit_inside.Statement.{statement}
 use Rattle.record_inside.proofs.na_edit_inside.Tie as tie

@@ -1,6 +1,6 @@
 -- A part that is there has a span.
 use Rattle.grammar.specs.Spans.{insideOptional}
-use Rattle.record_inside.proofs.Laws.{told}
+use Rattle.record_inside.proofs.ArmTests.{told}
 use borrow.Author.Needs.{needs}
 use Rattle.record_inside.proofs.optional_inside.Statement.{statement}
 use Rattle.record_inside.proofs.optional_inside.Tie as tie

@@ -7,7 +7,7 @@ use lib.ListN.{drop, getD}
 use borrow.Author.Needs.{needs}
 use Rattle.texts.specs.Words.{starts}
 use Rattle.residue.specs.Rows.{rows, firstFrom, rowOf}
-use Rattle.residue.proofs.Laws.{same-byte, other-byte, last-byte, next-row, this-row, last-row, short-none}
+use Rattle.residue.proofs.RowSearch.{same-byte, other-byte, last-byte, next-row, this-row, last-row, short-none}
 use Rattle.residue.proofs.find_row.Statement.{statement}
 use Rattle.residue.proofs.find_row.Tie as tie
 

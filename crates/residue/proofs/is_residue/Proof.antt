@@ -1,8 +1,8 @@
 -- The whole text is a residue exactly where the residue at its front is the whole.
 use Rattle.residue.specs.Residues.{isResidue}
 use Rattle.residue.specs.Reading.{residueLen}
-use Rattle.residue.specs.Laws.{residue-some, residue-whole, residue-sound}
-use Rattle.residue.proofs.Laws.{whole-empty, whole}
+use Rattle.residue.specs.ResiduesRead.{residue-some, residue-whole, residue-sound}
+use Rattle.residue.proofs.RowSearch.{whole-empty, whole}
 use borrow.Author.Needs.{needs}
 use Rattle.residue.proofs.is_residue.Statement.{statement}
 use Rattle.residue.proofs.is_residue.Tie as tie

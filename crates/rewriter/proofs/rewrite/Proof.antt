@@ -6,8 +6,8 @@ use borrow.Author.Needs.{needs}
 use borrow.Author.Tests.{not-false}
 use Rattle.lent.specs.Put.{put-front}
 use Rattle.grammar.specs.Texts.{allLetters}
-use Rattle.na_edits.specs.Alphabet.{alphabets}
-use Rattle.bodies.specs.Settled.{isSettled}
+use Rattle.lang_na_edits.specs.Alphabet.{alphabets}
+use Rattle.lang_bodies.specs.Settled.{isSettled}
 use Rattle.rewriter.specs.Settled.{no-room, copied}
 use Rattle.rewriter.proofs.rewrite.Statement.{statement}
 use Rattle.rewriter.proofs.rewrite.Tie as tie

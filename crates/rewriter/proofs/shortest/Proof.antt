@@ -1,7 +1,7 @@
 use Rattle.grammar.specs.Texts.{allLetters}
 use Rattle.promise.specs.Outcome.{Outcome.given, numberAndPlace, refusalOutcome}
 use Rattle.promise.specs.Reading.{Reads}
-use Rattle.numbered.specs.Answers.{Rewrites}
+use Rattle.numbered.specs.TextOperations.{Rewrites}
 use borrow.Author.Needs.{needs}
 use Rattle.rewriter.proofs.shortest.Statement.{statement}
 use Rattle.rewriter.proofs.shortest.Tie as tie

@@ -4,7 +4,7 @@ use native.Mathlib.Omega.{arith}
 use lib.ListN.{length}
 use borrow.Author.Tests.{not-true, not-false}
 use Rattle.grammar.specs.Contents.{spansInside}
-use Rattle.writer.proofs.Laws.{too-long, bad-span, no-text, drafted}
+use Rattle.writer.proofs.WriteCases.{too-long, bad-span, no-text, drafted}
 use borrow.Author.Needs.{needs}
 use Rattle.writer.proofs.write_wanted.Statement.{statement}
 use Rattle.writer.proofs.write_wanted.Tie as tie

@@ -1,0 +1,12 @@
+use borrow.Author.Needs.{needs}
+use Rattle.plan_edits.proofs.edit_if.Statement.{statement}
+use Rattle.plan_edits.proofs.edit_if.Tie as tie
+
+returns : tie.Need-returns
+returns c = rw (c .if1 .taken)
+
+returns-2 : tie.Need-returns-2
+returns-2 c = search needs
+
+pub edit-if-spec : {M : Type 1} → statement M
+edit-if-spec = tie.close (tie.spec returns returns-2)

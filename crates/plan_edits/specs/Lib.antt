@@ -1,0 +1,2 @@
+pub mod EditPlans
+pub mod PlanTexts

@@ -1,0 +1,24 @@
+-- What the reader gives for the tree of a text: its record, and its faults.
+use mathlib.Core.Option.{Option, none, some}
+use mathlib.Core.Bool.{Bool, true, false}
+use Rattle.record.specs.declared.Kind.{Kind}
+use Rattle.record.specs.declared.Kind.the-variants.{Cds, Genome, Mt, Tx, Prot, Rna}
+use Rattle.grammar.specs.Texts.{Text}
+use Rattle.grammar.specs.Records.{recordAt}
+use Rattle.grammar.specs.Numbers.{numbersAt}
+use Rattle.read_scan.specs.Faults.{faults}
+use Rattle.lang_bodies.specs.Settled.{settledText}
+use Rattle.read_text.specs.declared.TextRead.{TextRead}
+use Rattle.read_text.specs.declared.TextRead.the-variants.{Nothing, Found}
+
+abbrev pub isProtein : Kind → Bool
+isProtein Cds = false
+isProtein Genome = false
+isProtein Mt = false
+isProtein Tx = false
+isProtein Prot = true
+isProtein Rna = false
+
+unfoldable pub textAnswer : Option Text → TextRead
+textAnswer none = Nothing
+textAnswer (some x) = Found (recordAt 0 x) (faults (numbersAt 0 x) (settledText x))
