@@ -34,8 +34,8 @@ fn magnitude(out: &mut [u8], at: usize, v: u32) -> usize
     ensures { λ r. ⌜ r ≤ length (now (out .entry)) ⌝ }
 {
     if at <= out.len() {
-        if numerals::decimal_len(v) <= out.len() - at {
-            return numerals::put_decimal(out, at, v);
+        if emit_number::decimal_len(v) <= out.len() - at {
+            return emit_number::put_decimal(out, at, v);
         }
     }
     out.len()
@@ -46,9 +46,9 @@ pub fn integer(out: &mut [u8], at: usize, v: i32) -> usize
 {
     if v < 0 {
         let k = byte(out, at, b'-');
-        return magnitude(out, k, numerals::magnitude(v));
+        return magnitude(out, k, emit_number::magnitude(v));
     }
-    magnitude(out, at, numerals::magnitude(v))
+    magnitude(out, at, emit_number::magnitude(v))
 }
 
 // The largest is a width, one more than a u32 holds.

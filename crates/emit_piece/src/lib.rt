@@ -40,7 +40,7 @@ pub fn amount_len(a: Amount) -> usize
 {
     match a {
         Amount::Absent => 0,
-        Amount::Count(n) => numerals::decimal_len(n),
+        Amount::Count(n) => emit_number::decimal_len(n),
     }
 }
 
@@ -71,6 +71,6 @@ pub fn put_amount(out: &mut [u8], at: usize, a: Amount) -> usize
 {
     match a {
         Amount::Absent => at,
-        Amount::Count(n) => numerals::put_decimal(out, at, n),
+        Amount::Count(n) => emit_number::put_decimal(out, at, n),
     }
 }

@@ -14,9 +14,9 @@ fn put_refusal(out: &mut [u8], at: usize, number: u32, place: u32) -> usize
     ensures { λ r. ⌜ (r ≡ at + length (refusal number place)) × (now (out .exit) ≡ put (now (out .entry)) at (refusal number place)) ⌝ }
 {
     let a = lent::put_bytes(out, at, b"! ");
-    let b = numerals::put_decimal(out, a, number);
+    let b = emit_number::put_decimal(out, a, number);
     let c = lent::put_bytes(out, b, b" ");
-    numerals::put_decimal(out, c, place)
+    emit_number::put_decimal(out, c, place)
 }
 
 // A line may be longer than what is held of it.

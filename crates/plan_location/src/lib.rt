@@ -60,7 +60,7 @@ fn offset_amount(offset: Offset) -> Amount
 {
     match offset {
         Offset::Absent => Amount::Absent,
-        Offset::By(n) => Amount::Count(numerals::magnitude(n)),
+        Offset::By(n) => Amount::Count(emit_number::magnitude(n)),
     }
 }
 
@@ -71,7 +71,7 @@ fn plan_end(residue: Span, mark: OneByte, p: Position, offset: Offset) -> Positi
     PositionPlan::Text(PositionPieces {
         residue,
         mark,
-        number: Amount::Count(numerals::magnitude(p.number)),
+        number: Amount::Count(emit_number::magnitude(p.number)),
         sign: offset_sign(offset),
         offset: offset_amount(offset),
     })

@@ -73,7 +73,7 @@ fn plan_count(word: Word, n: i32, joint: Word, q: Span) -> EditPlan
 {
     plan_edits::edit_if(
         plan_edits::is_unsigned(n),
-        count_row(word, numerals::magnitude(n), joint, q),
+        count_row(word, emit_number::magnitude(n), joint, q),
     )
 }
 

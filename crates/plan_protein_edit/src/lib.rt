@@ -30,7 +30,7 @@ fn amount_of(n: UncertainLengthChange) -> Amount
     match n {
         UncertainLengthChange::None => Amount::Absent,
         UncertainLengthChange::Unknown => Amount::Absent,
-        UncertainLengthChange::Known(z) => Amount::Count(numerals::magnitude(z)),
+        UncertainLengthChange::Known(z) => Amount::Count(emit_number::magnitude(z)),
     }
 }
 

@@ -101,7 +101,7 @@ fn offset_behind(table: &[u8; 256], s: &[u8], at: usize, sign: Sign) -> OffsetRe
     requires { ⌜ (at + 1 + length (now s) ≤ 4096) × IsTable (now table) ⌝ }
     ensures { λ r. ⌜ r ≡ offsetBehind at sign (now (s .entry)) ⌝ }
 {
-    let n = numerals::number_at(table, s, sign);
+    let n = read_number::number_at(table, s, sign);
     if n.len == 0 {
         return no_offset(at);
     }
@@ -133,7 +133,7 @@ fn cds_pos(table: &[u8; 256], s: &[u8], at: usize) -> PositionRead
     let m = mark_at(s);
     let k = m.len;
     let sign = m.sign;
-    let n = numerals::number_at(table, &s[k..], sign);
+    let n = read_number::number_at(table, &s[k..], sign);
     if n.len == 0 {
         return PositionRead::Nothing;
     }
@@ -197,7 +197,7 @@ fn genome_pos(table: &[u8; 256], s: &[u8], at: usize) -> PositionRead
     requires { ⌜ (at + length (now s) ≤ 4096) × IsTable (now table) ⌝ }
     ensures { λ r. ⌜ r ≡ positionAnswer Genome at (parseGenomic (now (s .entry))) ⌝ }
 {
-    let n = numerals::number_at(table, s, Sign::Plain);
+    let n = read_number::number_at(table, s, Sign::Plain);
     if n.len == 0 {
         if words::begins(s, b"?") {
             return PositionRead::Found(
@@ -224,7 +224,7 @@ fn prot_pos(table: &[u8; 256], s: &[u8], at: usize) -> PositionRead
     if k == 0 {
         return PositionRead::Nothing;
     }
-    let n = numerals::number_at(table, &s[k..], Sign::Plain);
+    let n = read_number::number_at(table, &s[k..], Sign::Plain);
     if n.len == 0 {
         return PositionRead::Nothing;
     }

@@ -117,7 +117,7 @@ fn after_del(table: &[u8; 256], s: &[u8], at: usize) -> NaEditRead
             read_scan::settled_if(m != b, read_scan::no_faults()),
         );
     }
-    let n = numerals::number_at(table, s, Sign::Plain);
+    let n = read_number::number_at(table, s, Sign::Plain);
     if n.len != 0 {
         return after_del_num(table, s, at, n);
     }
@@ -175,7 +175,7 @@ fn after_inv(table: &[u8; 256], s: &[u8], at: usize) -> NaEditRead
     requires { ⌜ (at + 3 + length (now s) ≤ 4096) × IsTable (now table) ⌝ }
     ensures { λ r. ⌜ r ≡ naEditAnswer at (some (afterInv nucleotide (now (s .entry)))) ⌝ }
 {
-    let n = numerals::number_at(table, s, Sign::Plain);
+    let n = read_number::number_at(table, s, Sign::Plain);
     let len = n.len;
     if len != 0 {
         return NaEditRead::Found(

@@ -60,7 +60,7 @@ fn length_at(table: &[u8; 256], s: &[u8], at: usize) -> LengthRead
     requires { ⌜ (at ≤ 4096) × IsTable (now table) ⌝ }
     ensures { λ r. ⌜ r ≡ lengthRead at (lengthAt (now (s .entry))) ⌝ }
 {
-    let n = numerals::number_at(table, s, Sign::Plain);
+    let n = read_number::number_at(table, s, Sign::Plain);
     if n.len != 0 {
         return LengthRead {
             change: UncertainLengthChange::Known(n.value),
@@ -144,7 +144,7 @@ fn ext_neg_shift(table: &[u8; 256], s: &[u8], at: usize, n: usize) -> ProteinEdi
     if !words::begins(rest, b"-") {
         return ProteinEditRead::Nothing;
     }
-    let d = numerals::number_at(table, &rest[1..], Sign::Negated);
+    let d = read_number::number_at(table, &rest[1..], Sign::Negated);
     if d.len == 0 {
         return ProteinEditRead::Nothing;
     }

@@ -4,9 +4,9 @@ use lib.IntN.{pos}
 use mir.Val.{SFits}
 use mir.Syntax.{w32}
 use mir.Facts.{toZ-ofZ, toZ-pos}
 use Rattle.numerals.specs.Signs.{most-bound, signed-fits}
-use Rattle.numerals.proofs.with_sign.Statement.{statement}
-use Rattle.numerals.proofs.with_sign.Tie as tie
+use Rattle.read_number.proofs.with_sign.Statement.{statement}
+use Rattle.read_number.proofs.with_sign.Tie as tie
 
 enum-told : tie.Need-enum-told
 enum-told c = search needs

@@ -5,11 +5,11 @@ use native.Mathlib.Omega.{arith}
 use borrow.Author.Needs.{needs}
 use lib.ListN.{length, length-set}
 use Rattle.lent.specs.Put.{put}
 use Rattle.numerals.specs.Digits.{dec}
 use Rattle.numerals.specs.Decimals.{dec-some, dec-more-length}
-use Rattle.numerals.proofs.DigitLoops.{last-digit, only-digit}
-use Rattle.numerals.proofs.put_decimal.Statement.{statement}
-use Rattle.numerals.proofs.put_decimal.Tie as tie
+use Rattle.emit_number.proofs.LastDigitFirst.{last-digit, only-digit}
+use Rattle.emit_number.proofs.put_decimal.Statement.{statement}
+use Rattle.emit_number.proofs.put_decimal.Tie as tie
 
 abbrev Inv-loop : tie.InvT-loop
 Inv-loop out₀ at v behind rest₀ i₀ out rest i =

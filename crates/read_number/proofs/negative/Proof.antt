@@ -1,8 +1,8 @@
 use borrow.Author.Needs.{needs}
 use mir.Facts.{toZ-ofZ}
-use Rattle.numerals.proofs.Machine.{negative-fits, negative-wide, negative-is}
-use Rattle.numerals.proofs.negative.Statement.{statement}
-use Rattle.numerals.proofs.negative.Tie as tie
+use Rattle.read_number.proofs.Negatives.{negative-fits, negative-wide, negative-is}
+use Rattle.read_number.proofs.negative.Statement.{statement}
+use Rattle.read_number.proofs.negative.Tie as tie
 
 cast-w : tie.Need-cast-w
 cast-w c = search needs

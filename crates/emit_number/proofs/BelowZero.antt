@@ -1,41 +1,16 @@
--- What `0 - z` is in 64 bits: the negative of a value, and the size of an i32.
-use Prim.Native.Nat.{ℕ, _≤_}
+-- An i32 in 64 bits, and what is known of one below 0.
 use mathlib.Core.Path.{_≡_, refl}
 use mathlib.Core.Bool.{true, false}
 use native.Mathlib.Omega.{arith}
 use borrow.Author.Tests.{ltb-true}
 use lib.Dec.{T}
-use lib.IntN.{ℤ, pos, negsuc, negℤ, natAbs, _-ℤ_, +ℤ-idl}
+use lib.IntN.{ℤ, pos, negsuc, negℤ, natAbs}
 use lib.Signed.{ltZ, nonNeg}
 use mir.Syntax.{w32, w64}
 use mir.Val.{Fits, SFits, toZ, ofZ}
-use mir.Facts.{toZ-ofZ, toZ-pos, sfits-widen}
+use mir.Facts.{toZ-ofZ, sfits-widen}
 use Rattle.texts.specs.Tests.{clash}
-use Rattle.numerals.specs.Signs.{signed-fits}
-use Rattle.numerals.specs.declared.Sign.the-variants.{Minus}
 
-module _ {z a : ℤ} (e : z ≡ a) (f : SFits w64 (negℤ a)) where
-  pub negation-fits : SFits w64 (pos 0 -ℤ z)
-  negation-fits = rw (e, +ℤ-idl) f
-
-  pub negation : toZ w64 (ofZ w64 (pos 0 -ℤ z)) ≡ negℤ a
-  negation = rw (e, +ℤ-idl) (toZ-ofZ f)
-
--- ---- of a value v
-module _ (v : ℕ) (h : v ≤ 2147483648) where
-  as-i64 : toZ w64 v ≡ pos v
-  as-i64 = toZ-pos w64 (omega arith)
-
-  pub negative-fits : SFits w32 (negℤ (pos v))
-  negative-fits = signed-fits Minus v h
-
-  pub negative-wide : SFits w64 (pos 0 -ℤ toZ w64 v)
-  negative-wide = negation-fits as-i64 (sfits-widen tt negative-fits)
-
-  pub negative-is : toZ w64 (ofZ w64 (pos 0 -ℤ toZ w64 v)) ≡ negℤ (pos v)
-  negative-is = negation as-i64 (sfits-widen tt negative-fits)
-
--- ---- of an i32
 pub widened : {a : ℤ} → SFits w32 a → toZ w64 (ofZ w64 (toZ w32 (ofZ w32 a))) ≡ a
 widened {a} f = let g : SFits w64 a = sfits-widen tt f in rw (toZ-ofZ f) (toZ-ofZ g)
 

@@ -1,8 +1,9 @@
 use borrow.Author.Needs.{needs}
 use mir.Facts.{toZ-ofZ, sfits-widen, fits-natAbs}
-use Rattle.numerals.proofs.Machine.{negation, negation-fits, widened, Below, below-zero, not-below-zero}
-use Rattle.numerals.proofs.magnitude.Statement.{statement}
-use Rattle.numerals.proofs.magnitude.Tie as tie
+use Rattle.numerals.specs.Negation.{negation, negation-fits}
+use Rattle.emit_number.proofs.BelowZero.{widened, Below, below-zero, not-below-zero}
+use Rattle.emit_number.proofs.magnitude.Statement.{statement}
+use Rattle.emit_number.proofs.magnitude.Tie as tie
 
 below : (c : tie.Then1) → Below (c .before .args .v)
 below c =

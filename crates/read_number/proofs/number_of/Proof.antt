@@ -1,8 +1,8 @@
 use borrow.Author.Needs.{needs, sfits-of}
 use mir.Facts.{toZ-ofZ}
 use Rattle.numerals.specs.Numbers.{number-fit, number-misfit}
-use Rattle.numerals.proofs.number_of.Statement.{statement}
-use Rattle.numerals.proofs.number_of.Tie as tie
+use Rattle.read_number.proofs.number_of.Statement.{statement}
+use Rattle.read_number.proofs.number_of.Tie as tie
 
 is-plain-requires : tie.Need-is-plain-requires
 is-plain-requires c κs = search needs

@@ -1,7 +1,7 @@
 use borrow.Author.Needs.{needs}
-use Rattle.numerals.proofs.DigitLoops.{zero-missing, zero-there}
-use Rattle.numerals.proofs.begins_with_zero.Statement.{statement}
-use Rattle.numerals.proofs.begins_with_zero.Tie as tie
+use Rattle.read_number.proofs.DigitLoops.{zero-missing, zero-there}
+use Rattle.read_number.proofs.begins_with_zero.Statement.{statement}
+use Rattle.read_number.proofs.begins_with_zero.Tie as tie
 
 returns : tie.Need-returns
 returns c = zero-missing _ (c .if1 .taken)

@@ -1,8 +1,8 @@
 use mathlib.Core.Path.{refl}
 use borrow.Author.Needs.{needs}
 use borrow.Author.Tests.{not-true, not-false, eq-eqb, ne-eqb}
-use Rattle.numerals.proofs.is_plain.Statement.{statement}
-use Rattle.numerals.proofs.is_plain.Tie as tie
+use Rattle.read_number.proofs.is_plain.Statement.{statement}
+use Rattle.read_number.proofs.is_plain.Tie as tie
 
 returns : tie.Need-returns
 returns c = rw (not-true (c .before .args .zero) (c .if1 .taken)) refl

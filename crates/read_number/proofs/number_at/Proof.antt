@@ -10,11 +10,11 @@ use Rattle.texts.specs.Runs.{run, run-more, run-stop, run-end}
 use Rattle.alphabet.specs.Letters.{digit}
 use Rattle.alphabet.specs.Apart.{digit-bounds}
 use Rattle.alphabet.specs.Classes.{member}
 use Rattle.numerals.specs.Digits.{valFrom, val}
 use Rattle.numerals.specs.Reading.{tooLarge}
-use Rattle.numerals.proofs.DigitLoops.{value-more, value-all}
-use Rattle.numerals.proofs.number_at.Statement.{statement}
-use Rattle.numerals.proofs.number_at.Tie as tie
+use Rattle.read_number.proofs.DigitLoops.{value-more, value-all}
+use Rattle.read_number.proofs.number_at.Statement.{statement}
+use Rattle.read_number.proofs.number_at.Tie as tie
 
 abbrev Inv-loop : tie.InvT-loop
 Inv-loop table s sign zero v₀ i₀ v i = (i ≤ length s) × (run digit s ≡ i + run digit (drop i s)) × (v ≡ min (val (take i s)) tooLarge)

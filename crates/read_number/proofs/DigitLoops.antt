@@ -1,5 +1,5 @@
--- Laws behind the loops.
-use Prim.Native.Nat.{ℕ, suc, _+_, _-_, _*_, _/_, _%_, _≤_, _<_, min}
+-- The digits of a number, one by one: what is counted, where it may be capped, and a zero in front.
+use Prim.Native.Nat.{ℕ, suc, _+_, _-_, _*_, _<_, min}
 use Prim.Native.Char.{code}
 use mathlib.Core.Path.{_≡_, refl, sym, _∙_}
 use mathlib.Core.List.{List, [], _∷_}
@@ -7,21 +7,19 @@ use mathlib.Core.Bool.{Bool, true, false, cond, _&&_}
 use native.Mathlib.Omega.{arith}
 use native.Mathlib.Numerals.{add-one}
 use lib.Dec.{eqb, leb}
-use lib.ListN.{length, set, getD, take}
+use lib.ListN.{length, getD, take}
 use lib.Seq.{take-suc}
 use borrow.Author.Tests.{leb-true, leb-false, eqb-true, eq-eqb}
 use Rattle.texts.specs.Tests.{clash, never}
 use Rattle.texts.specs.Runs.{run, front}
 use Rattle.texts.specs.Words.{starts}
 use Rattle.alphabet.specs.Letters.{digit}
-use Rattle.lent.specs.Put.{put, put-byte, put-before}
-use Rattle.numerals.specs.Digits.{val, dec}
+use Rattle.numerals.specs.Digits.{val}
 use Rattle.numerals.specs.Values.{val-append, val-one}
-use Rattle.numerals.specs.Decimals.{dec-one, dec-more, dec-one-length, dec-more-length}
 use Rattle.numerals.specs.Reading.{most, zeroFirst, tooLarge, numberOf, numberAt}
 use Rattle.numerals.specs.Signs.{most-bound}
 use Rattle.numerals.specs.Numbers.{number-misfit}
 use Rattle.numerals.specs.declared.Sign.{Sign}
 
 -- ---- a value that is too large may count as another
 pub number-capped : (n : ℕ) (sign : Sign) (v : ℕ) (zero : Bool) → numberOf n sign (min v tooLarge) zero ≡ numberOf n sign v zero
@@ -43,7 +41,6 @@ value-more s i v h e =
     let d : val (take (i + 1) s) ≡ 10 * val (take i s) + (getD s i 0 - code "0") = rw (add-one, take-suc s i 0 h) (val-append 0 (take i s) (getD s i 0 ∷ []) ∙ val-one (val (take i s)) (getD s i 0)) in
     omega arith
 
--- ---- all digits
 -- ---- a zero in front
 pub zero-missing : (s : List ℕ) → length s ≡ 0 → false ≡ zeroFirst s
 unfolding starts
@@ -72,16 +69,3 @@ zero-first (b ∷ s) = go (digit b) refl
 pub value-all : (sign : Sign) (s : List ℕ) (i v : ℕ) (zero : Bool) → run digit s ≡ i → v ≡ min (val (take i s)) tooLarge → zero ≡ zeroFirst s → numberOf i sign v zero ≡ numberAt sign s
 unfolding numberAt front
 value-all sign s i v zero r e z = rw (r, e, z ∙ zero-first s) (rw r (number-capped i sign (val (take i s)) (zeroFirst (take i s))))
-
--- ---- a decimal text whose last digit is written first
-module _ (o : List ℕ) (at w i : ℕ) (inside : i < length o) (last : i + 1 ≡ at + length (dec w)) where
-  pub last-digit : 10 ≤ w → put (set o i (code "0" + w % 10)) at (dec (w / 10)) ≡ put o at (dec w)
-  last-digit h =
-      let k : i ≡ at + length (dec (w / 10)) = omega (arith, dec-more-length w h) in
-      let room : at + length (dec (w / 10)) ≤ length o = omega arith in
-      rw (sym (put-byte o i (code "0" + w % 10) inside), k, dec-more w h) (put-before o at (dec (w / 10)) ((code "0" + w % 10) ∷ []) room)
-
-  pub only-digit : w < 10 → set o i (code "0" + w) ≡ put o at (dec w)
-  only-digit h =
-      let k : i ≡ at = omega (arith, dec-one-length w h) in
-      rw (dec-one w h, sym k) (sym (put-byte o i (code "0" + w) inside))

@@ -3,10 +3,10 @@ use Prim.Native.Nat.{_+_}
 use mathlib.Core.Path.{_≡_}
 use native.Mathlib.Omega.{arith}
 use lib.ListN.{length}
 use Rattle.numerals.specs.Digits.{dec}
 use Rattle.numerals.specs.Decimals.{dec-one-length, dec-more-length, dec-short}
-use Rattle.numerals.proofs.decimal_len.Statement.{statement}
-use Rattle.numerals.proofs.decimal_len.Tie as tie
+use Rattle.emit_number.proofs.decimal_len.Statement.{statement}
+use Rattle.emit_number.proofs.decimal_len.Tie as tie
 
 abbrev Inv-loop : tie.InvT-loop
 Inv-loop v w₀ n₀ w n = n + length (dec w) ≡ 1 + length (dec v)

@@ -1,0 +1,2 @@
+pub mod LastDigitFirst
+pub mod BelowZero
