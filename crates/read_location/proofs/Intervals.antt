@@ -33,11 +33,12 @@ use Rattle.lang_locations.specs.Languages.{posLang, endsLang}
 use Rattle.lang_locations.specs.Equal.{eqℤ, machine-equal}
 use Rattle.lang_locations.specs.Settled.{settledPosition, numberIn}
 use Rattle.any_location.specs.declared.Position.{Position}
-use Rattle.read_location.specs.declared.PositionRead.the-variants as PR
+use Rattle.read_position.specs.declared.PositionRead.the-variants as PR
 use Rattle.read_location.specs.declared.LocationRead.the-variants.{Nothing, Found}
-use Rattle.read_location.specs.Told.{PositionTold, position-unread}
+use Rattle.read_position.specs.Told.{PositionTold, position-unread}
 use Rattle.any_location.specs.OfTree.{positionOf, intervalOf}
-use Rattle.read_location.specs.LocationAnswers.{positionAnswer, intervalAnswer}
+use Rattle.read_position.specs.PositionAnswers.{positionAnswer}
+use Rattle.read_location.specs.LocationAnswers.{intervalAnswer}
 
 number-in : (k : Kind) (at : ℕ) (t : Tree.PositionTree k) → positionOf k at t .number ≡ numberIn k t
 number-in Cds at (based m ds o) = refl

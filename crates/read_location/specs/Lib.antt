@@ -1,3 +1,2 @@
 pub mod LocationAnswers
-pub mod Forms
 pub mod Told

@@ -13,17 +13,11 @@ use Rattle.read_scan.specs.declared.Faults.{Faults}
 use Rattle.read_scan.specs.Accounts.{Cases, Told, told, unread}
 use Rattle.read_scan.specs.MuAccounts.{Bracketed}
 use Rattle.lang_locations.specs.Settled.{settledEnds}
-use Rattle.lang_locations.specs.Parse.{parsePosition}
 use Rattle.lang_locations.specs.Languages.{endsLang, locationLang}
-use Rattle.any_location.specs.declared.Position.{Position}
-use Rattle.read_location.specs.declared.PositionRead.the-variants as PR
 use Rattle.any_location.specs.declared.Location.{Location}
 use Rattle.any_location.specs.OfTree.{intervalOf, locationOf, uncertainOf, uncertain-is}
 use Rattle.read_location.specs.declared.LocationRead.the-variants.{Nothing, Found}
-use Rattle.read_location.specs.LocationAnswers.{positions, positionAnswer, intervals, intervalAnswer, locations, locationAnswer}
-
-pub position-cases : Cases PR.Nothing PR.Found
-position-cases = record { apart = λ e. let y : _≡_ {A = ℕ} 0 1 = cc in omega arith; same = λ e. (cc, cc, cc) }
+use Rattle.read_location.specs.LocationAnswers.{intervals, intervalAnswer, locations, locationAnswer}
 
 pub location-cases : Cases Nothing Found
 location-cases = record { apart = λ e. let y : _≡_ {A = ℕ} 0 1 = cc in omega arith; same = λ e. (cc, cc, cc) }
@@ -43,9 +37,6 @@ bracketed k =
       read-unsure = λ at i. uncertain-is k (at + 1) i;
     }
 
-abbrev pub PositionTold : Kind → ℕ → List ℕ → Position → ℕ → Faults → Type 0
-PositionTold k at s = Told (positions k) at (parsePosition k) s
-
 abbrev pub IntervalTold : Kind → ℕ → List ℕ → Location → ℕ → Faults → Type 0
 IntervalTold k at s = Told (intervals k) at (endsLang k .parse) s
 
@@ -53,12 +44,6 @@ abbrev pub LocationTold : Kind → ℕ → List ℕ → Location → ℕ → Fau
 LocationTold k at s = Told (locations k) at (locationLang k .parse) s
 
 module _ (k : Kind) (at : ℕ) (s : List ℕ) where
-  pub position-told : (p : Position) (n : ℕ) (f : Faults) → PR.Found p n f ≡ positionAnswer k at (parsePosition k s) → PositionTold k at s p n f
-  position-told p n f = told position-cases (positions k) at (parsePosition k) s
-
-  pub position-unread : PR.Nothing ≡ positionAnswer k at (parsePosition k s) → parsePosition k s ≡ none
-  position-unread = unread position-cases (positions k) at (parsePosition k) s
-
   pub interval-told : (l : Location) (n : ℕ) (f : Faults) → Found l n f ≡ intervalAnswer k at (endsLang k .parse s) → IntervalTold k at s l n f
   interval-told l n f = told location-cases (intervals k) at (endsLang k .parse) s
 

@@ -1,262 +1,20 @@
-// Reading positions, intervals and locations at the front of a text.
+// Reading intervals and locations of any kind at the front of a text.
 use any_location::Location;
-use any_location::Position;
-use numerals::Sign;
+use read_position::PositionRead;
 use read_scan::Ending;
 use read_scan::Faults;
-use record::CdsFrom;
 use record::Kind;
-use record::Offset;
-use record::Span;
 ghost use mathlib.Core.Path.{_≡_};
 ghost use Prim.Native.Nat.{_+_, _≤_};
 ghost use lib.ListN.{length};
 ghost use Rattle.alphabet.specs.Cells.{IsTable};
-ghost use Rattle.record.specs.declared.Kind.the-variants.{Cds, Genome, Mt, Tx, Prot, Rna};
-ghost use Rattle.grammar.specs.Positions.{OffsetTree.absent};
-ghost use Rattle.lang_locations.specs.Parse.{parseMark, parseOffset, parseBased, parseGenomic, parseResidual, parsePosition};
 ghost use Rattle.lang_locations.specs.Languages.{endsLang, locationLang};
-ghost use Rattle.read_location.specs.Forms.{isStarred, isBarred, parseBasedFor, formOf};
-ghost use Rattle.read_location.specs.LocationAnswers.{markOf, offsetAnswer, offsetBehind, positionAnswer, intervalAnswer, locationAnswer};
+ghost use Rattle.read_location.specs.LocationAnswers.{intervalAnswer, locationAnswer};
 
-// Each answer has the length of what was found, and what is wrong with its numbers.
-enum PositionRead {
-    Nothing,
-    Found(Position, usize, Faults),
-}
-
+// The location, how long its text is, and what is wrong with its numbers.
 pub enum LocationRead {
     Nothing,
     Found(Location, usize, Faults),
-}
-
-// What stands before the digits of a base: how long it is, what it says, and whether it is plainly spelled.
-struct MarkRead {
-    len: usize,
-    sign: Sign,
-    cds_from: CdsFrom,
-    plain: bool,
-}
-
-// How a kind writes its positions: a base with or without an offset; digits, or `?`; a residue with digits.
-enum Form {
-    Based,
-    Genomic,
-    Residual,
-}
-
-struct OffsetRead {
-    offset: Offset,
-    len: usize,
-    faults: Faults,
-}
-
-fn mark_at(s: &[u8]) -> MarkRead
-    ensures { λ r. ⌜ r ≡ markOf (parseMark (now (s .entry))) ⌝ }
-{
-    if words::begins(s, b"+") {
-        return MarkRead {
-            len: 1,
-            sign: Sign::Plain,
-            cds_from: CdsFrom::Start,
-            plain: false,
-        };
-    }
-    if words::begins(s, b"-") {
-        return MarkRead {
-            len: 1,
-            sign: Sign::Minus,
-            cds_from: CdsFrom::Start,
-            plain: true,
-        };
-    }
-    if words::begins(s, b"*") {
-        return MarkRead {
-            len: 1,
-            sign: Sign::Plain,
-            cds_from: CdsFrom::End,
-            plain: true,
-        };
-    }
-    MarkRead {
-        len: 0,
-        sign: Sign::Plain,
-        cds_from: CdsFrom::Start,
-        plain: true,
-    }
-}
-
-fn no_offset(at: usize) -> OffsetRead
-    ensures { λ r. ⌜ r ≡ offsetAnswer at absent ⌝ }
-{
-    OffsetRead {
-        offset: Offset::Absent,
-        len: 0,
-        faults: read_scan::no_faults(),
-    }
-}
-
-// Behind the sign of an offset that stands at `at`.
-fn offset_behind(table: &[u8; 256], s: &[u8], at: usize, sign: Sign) -> OffsetRead
-    requires { ⌜ (at + 1 + length (now s) ≤ 4096) × IsTable (now table) ⌝ }
-    ensures { λ r. ⌜ r ≡ offsetBehind at sign (now (s .entry)) ⌝ }
-{
-    let n = read_number::number_at(table, s, sign);
-    if n.len == 0 {
-        return no_offset(at);
-    }
-    OffsetRead {
-        offset: Offset::By(n.value),
-        len: 1 + n.len,
-        faults: read_scan::faults_of(at + 1, n),
-    }
-}
-
-fn offset_at(table: &[u8; 256], s: &[u8], at: usize) -> OffsetRead
-    requires { ⌜ (at + length (now s) ≤ 4096) × IsTable (now table) ⌝ }
-    ensures { λ r. ⌜ r ≡ offsetAnswer at (parseOffset (now (s .entry))) ⌝ }
-{
-    if words::begins(s, b"+") {
-        return offset_behind(table, &s[1..], at, Sign::Plain);
-    }
-    if words::begins(s, b"-") {
-        return offset_behind(table, &s[1..], at, Sign::Minus);
-    }
-    no_offset(at)
-}
-
-// c: a mark, digits, an offset.
-fn cds_pos(table: &[u8; 256], s: &[u8], at: usize) -> PositionRead
-    requires { ⌜ (at + length (now s) ≤ 4096) × IsTable (now table) ⌝ }
-    ensures { λ r. ⌜ r ≡ positionAnswer Cds at (parseBased (now (s .entry))) ⌝ }
-{
-    let m = mark_at(s);
-    let k = m.len;
-    let sign = m.sign;
-    let n = read_number::number_at(table, &s[k..], sign);
-    if n.len == 0 {
-        return PositionRead::Nothing;
-    }
-    let e = k + n.len;
-    let o = offset_at(table, &s[e..], at + e);
-    let cds_from = m.cds_from;
-    let offset = o.offset;
-    let later = o.faults;
-    PositionRead::Found(
-        Position {
-            aa: read_scan::span(0, 0),
-            number: n.value,
-            unknown: false,
-            cds_from,
-            offset,
-        },
-        e + o.len,
-        read_scan::settled_if(
-            m.plain,
-            read_scan::leftmost(read_scan::faults_of(at + k, n), later),
-        ),
-    )
-}
-
-fn is_starred(kind: Kind) -> bool
-    ensures { λ r. ⌜ r ≡ isStarred kind ⌝ }
-{
-    match kind {
-        Kind::Cds => true,
-        Kind::Genome => false,
-        Kind::Mt => false,
-        Kind::Tx => false,
-        Kind::Prot => false,
-        Kind::Rna => false,
-    }
-}
-
-// A `*` at the front that the kind does not have.
-fn is_barred(kind: Kind, s: &[u8]) -> bool
-    ensures { λ r. ⌜ r ≡ isBarred kind (now (s .entry)) ⌝ }
-{
-    if is_starred(kind) {
-        return false;
-    }
-    words::begins(s, b"*")
-}
-
-// c; n, r: as c without `*`.
-fn based_pos(table: &[u8; 256], kind: Kind, s: &[u8], at: usize) -> PositionRead
-    requires { ⌜ (at + length (now s) ≤ 4096) × IsTable (now table) ⌝ }
-    ensures { λ r. ⌜ r ≡ positionAnswer Cds at (parseBasedFor kind (now (s .entry))) ⌝ }
-{
-    if is_barred(kind, s) {
-        return PositionRead::Nothing;
-    }
-    cds_pos(table, s, at)
-}
-
-// g, m: digits, or `?`.
-fn genome_pos(table: &[u8; 256], s: &[u8], at: usize) -> PositionRead
-    requires { ⌜ (at + length (now s) ≤ 4096) × IsTable (now table) ⌝ }
-    ensures { λ r. ⌜ r ≡ positionAnswer Genome at (parseGenomic (now (s .entry))) ⌝ }
-{
-    let n = read_number::number_at(table, s, Sign::Plain);
-    if n.len == 0 {
-        if words::begins(s, b"?") {
-            return PositionRead::Found(
-                any_location::plain(read_scan::span(0, 0), 0, true),
-                1,
-                read_scan::no_faults(),
-            );
-        }
-        return PositionRead::Nothing;
-    }
-    PositionRead::Found(
-        any_location::plain(read_scan::span(0, 0), n.value, false),
-        n.len,
-        read_scan::faults_of(at, n),
-    )
-}
-
-// p: a residue, then digits.
-fn prot_pos(table: &[u8; 256], s: &[u8], at: usize) -> PositionRead
-    requires { ⌜ (at + length (now s) ≤ 4096) × IsTable (now table) ⌝ }
-    ensures { λ r. ⌜ r ≡ positionAnswer Prot at (parseResidual (now (s .entry))) ⌝ }
-{
-    let k = residue::residue_at(table, s);
-    if k == 0 {
-        return PositionRead::Nothing;
-    }
-    let n = read_number::number_at(table, &s[k..], Sign::Plain);
-    if n.len == 0 {
-        return PositionRead::Nothing;
-    }
-    PositionRead::Found(
-        any_location::plain(read_scan::span(at, k), n.value, false),
-        k + n.len,
-        read_scan::faults_of(at + k, n),
-    )
-}
-
-fn form_of(kind: Kind) -> Form
-    ensures { λ r. ⌜ r ≡ formOf kind ⌝ }
-{
-    match kind {
-        Kind::Cds => Form::Based,
-        Kind::Genome => Form::Genomic,
-        Kind::Mt => Form::Genomic,
-        Kind::Tx => Form::Based,
-        Kind::Prot => Form::Residual,
-        Kind::Rna => Form::Based,
-    }
-}
-
-fn pos_at(table: &[u8; 256], kind: Kind, s: &[u8], at: usize) -> PositionRead
-    requires { ⌜ (at + length (now s) ≤ 4096) × IsTable (now table) ⌝ }
-    ensures { λ r. ⌜ r ≡ positionAnswer kind at (parsePosition kind (now (s .entry))) ⌝ }
-{
-    match form_of(kind) {
-        Form::Based => based_pos(table, kind, s, at),
-        Form::Genomic => genome_pos(table, s, at),
-        Form::Residual => prot_pos(table, s, at),
-    }
 }
 
 // Position, or position `_` position; certain, as no brackets are read.
@@ -264,7 +22,7 @@ pub fn interval_at(table: &[u8; 256], kind: Kind, s: &[u8], at: usize) -> Locati
     requires { ⌜ (at + length (now s) ≤ 4096) × IsTable (now table) ⌝ }
     ensures { λ r. ⌜ r ≡ intervalAnswer kind at (endsLang kind .parse (now (s .entry))) ⌝ }
 {
-    let PositionRead::Found(start, n, faults) = pos_at(table, kind, s, at) else {
+    let PositionRead::Found(start, n, faults) = read_position::pos_at(table, kind, s, at) else {
         return LocationRead::Nothing;
     };
     if !words::begins(&s[n..], b"_") {
@@ -279,7 +37,8 @@ pub fn interval_at(table: &[u8; 256], kind: Kind, s: &[u8], at: usize) -> Locati
         );
     }
     let k = n + 1;
-    let PositionRead::Found(end, m, later) = pos_at(table, kind, &s[k..], at + k) else {
+    let PositionRead::Found(end, m, later) = read_position::pos_at(table, kind, &s[k..], at + k)
+    else {
         return LocationRead::Nothing;
     };
     LocationRead::Found(

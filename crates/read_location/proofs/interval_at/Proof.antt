@@ -8,7 +8,7 @@ use Rattle.texts.specs.Ascii.{ascii}
 use Rattle.texts.specs.Words.{starts}
 use borrow.Author.Tests.{not-true, not-false}
 use Rattle.record.specs.declared.Kind.{Kind}
-use Rattle.read_location.specs.Told.{PositionTold, position-told}
+use Rattle.read_position.specs.Told.{PositionTold, position-told}
 use Rattle.read_location.proofs.Intervals.{interval-none, start-le, interval-one, join-le, interval-half, end-le, interval-two}
 use borrow.Author.Needs.{needs}
 use Rattle.read_location.proofs.interval_at.Statement.{statement}

@@ -1,8 +1,8 @@
 use mathlib.Core.Path.{sym, _∙_}
-use Rattle.read_location.proofs.Positions.{genomic-unknown, genomic-none, genomic-some}
+use Rattle.read_position.proofs.Positions.{genomic-unknown, genomic-none, genomic-some}
 use borrow.Author.Needs.{needs}
-use Rattle.read_location.proofs.genome_pos.Statement.{statement}
-use Rattle.read_location.proofs.genome_pos.Tie as tie
+use Rattle.read_position.proofs.genome_pos.Statement.{statement}
+use Rattle.read_position.proofs.genome_pos.Tie as tie
 
 number-at-requires : tie.Need-number-at-requires
 number-at-requires c κs = search needs

@@ -1,8 +1,8 @@
 use mathlib.Core.Path.{sym, _∙_}
-use Rattle.read_location.proofs.Positions.{based-barred, based-free}
+use Rattle.read_position.proofs.Positions.{based-barred, based-free}
 use borrow.Author.Needs.{needs}
-use Rattle.read_location.proofs.based_pos.Statement.{statement}
-use Rattle.read_location.proofs.based_pos.Tie as tie
+use Rattle.read_position.proofs.based_pos.Statement.{statement}
+use Rattle.read_position.proofs.based_pos.Tie as tie
 
 is-barred-requires : tie.Need-is-barred-requires
 is-barred-requires c κs = search needs

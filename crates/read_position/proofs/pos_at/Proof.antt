@@ -1,8 +1,8 @@
 use mathlib.Core.Path.{sym, _∙_}
-use Rattle.read_location.specs.Forms.{based-says, genomic-says, residual-says}
+use Rattle.read_position.specs.Forms.{based-says, genomic-says, residual-says}
 use borrow.Author.Needs.{needs}
-use Rattle.read_location.proofs.pos_at.Statement.{statement}
-use Rattle.read_location.proofs.pos_at.Tie as tie
+use Rattle.read_position.proofs.pos_at.Statement.{statement}
+use Rattle.read_position.proofs.pos_at.Tie as tie
 
 form-of-requires : tie.Need-form-of-requires
 form-of-requires c κs = search needs

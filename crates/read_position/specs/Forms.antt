@@ -11,10 +11,10 @@ use Rattle.record.specs.declared.Kind.{Kind}
 use Rattle.record.specs.declared.Kind.the-variants.{Cds, Genome, Mt, Tx, Prot, Rna}
 use Rattle.grammar.specs.Positions.{Based}
 use Rattle.lang_locations.specs.Parse.{parseBased, parseUnstarred, parseGenomic, parseResidual, parsePosition}
-use Rattle.read_location.specs.declared.Form.{Form}
-use Rattle.read_location.specs.declared.Form.the-variants.{Based as BasedForm, Genomic, Residual}
-use Rattle.read_location.specs.declared.PositionRead.{PositionRead}
-use Rattle.read_location.specs.LocationAnswers.{positionAnswer}
+use Rattle.read_position.specs.declared.Form.{Form}
+use Rattle.read_position.specs.declared.Form.the-variants.{Based as BasedForm, Genomic, Residual}
+use Rattle.read_position.specs.declared.PositionRead.{PositionRead}
+use Rattle.read_position.specs.PositionAnswers.{positionAnswer}
 
 abbrev pub formOf : Kind → Form
 formOf Cds = BasedForm

@@ -1,8 +1,8 @@
 use mathlib.Core.Path.{sym, refl, _∙_}
-use Rattle.read_location.specs.Forms.{isBarred}
+use Rattle.read_position.specs.Forms.{isBarred}
 use borrow.Author.Needs.{needs}
-use Rattle.read_location.proofs.is_barred.Statement.{statement}
-use Rattle.read_location.proofs.is_barred.Tie as tie
+use Rattle.read_position.proofs.is_barred.Statement.{statement}
+use Rattle.read_position.proofs.is_barred.Tie as tie
 
 is-starred-requires : tie.Need-is-starred-requires
 is-starred-requires c κs = search needs

@@ -2,10 +2,10 @@ use Prim.Native.Nat.{_+_, _≤_}
 use native.Mathlib.Omega.{arith}
 use lib.ListN.{length}
 use Rattle.texts.specs.Slices.{tail-room}
-use Rattle.read_location.proofs.Positions.{based-mark, based-number, based-offset, based-none, based-some}
+use Rattle.read_position.proofs.Positions.{based-mark, based-number, based-offset, based-none, based-some}
 use borrow.Author.Needs.{needs}
-use Rattle.read_location.proofs.cds_pos.Statement.{statement}
-use Rattle.read_location.proofs.cds_pos.Tie as tie
+use Rattle.read_position.proofs.cds_pos.Statement.{statement}
+use Rattle.read_position.proofs.cds_pos.Tie as tie
 
 mark-le : (c : tie.After-mark-at) → c .mark-at .result .len ≤ length (c .before .before .args .s .now)
 mark-le c = based-mark (c .before .before .args .at) _ _ (c .mark-at .ensures)

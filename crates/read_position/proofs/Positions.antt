@@ -40,12 +40,12 @@ use Rattle.lang_locations.specs.Parse.{onDigits, parseMark, parseOffset, parseB
 use Rattle.lang_locations.specs.Sound.{digits-none, digits-some, mark-split, offset-sound}
 use Rattle.lang_locations.specs.Settled.{plainMark}
 use Rattle.any_location.specs.declared.Position.{Position}
-use Rattle.read_location.specs.declared.PositionRead.the-variants.{Nothing, Found}
-use Rattle.read_location.specs.declared.MarkRead.{MarkRead}
-use Rattle.read_location.specs.declared.OffsetRead.{OffsetRead}
-use Rattle.read_location.specs.Forms.{isBarred, parseBasedFor}
+use Rattle.read_position.specs.declared.PositionRead.the-variants.{Nothing, Found}
+use Rattle.read_position.specs.declared.MarkRead.{MarkRead}
+use Rattle.read_position.specs.declared.OffsetRead.{OffsetRead}
+use Rattle.read_position.specs.Forms.{isBarred, parseBasedFor}
 use Rattle.any_location.specs.OfTree.{plainOf, basedOf}
-use Rattle.read_location.specs.LocationAnswers.{positionAnswer, markOf, offsetAnswer, offsetBehind}
+use Rattle.read_position.specs.PositionAnswers.{positionAnswer, markOf, offsetAnswer, offsetBehind}
 
 -- ---- marks
 module _ (s : List ℕ) where

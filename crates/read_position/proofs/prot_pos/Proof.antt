@@ -1,10 +1,10 @@
 use Prim.Native.Nat.{_+_, _≤_}
 use native.Mathlib.Omega.{arith}
 use lib.ListN.{length}
-use Rattle.read_location.proofs.Positions.{residual-le, residual-number, residual-none, residual-bare, residual-some}
+use Rattle.read_position.proofs.Positions.{residual-le, residual-number, residual-none, residual-bare, residual-some}
 use borrow.Author.Needs.{needs}
-use Rattle.read_location.proofs.prot_pos.Statement.{statement}
-use Rattle.read_location.proofs.prot_pos.Tie as tie
+use Rattle.read_position.proofs.prot_pos.Statement.{statement}
+use Rattle.read_position.proofs.prot_pos.Tie as tie
 
 residue-le : (c : tie.After-residue-at) → c .residue-at .result ≤ length (c .before .before .args .s .now)
 residue-le c = residual-le (c .before .before .args .at) _ _ (c .residue-at .ensures)

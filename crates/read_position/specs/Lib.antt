@@ -1,0 +1,3 @@
+pub mod PositionAnswers
+pub mod Forms
+pub mod Told
