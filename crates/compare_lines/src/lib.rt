@@ -47,7 +47,7 @@ fn turn(piece: &[u8], buffer: &mut [u8], line: Line, out: &mut [u8], with_column
     requires { ⌜ line .len ≤ length (now buffer) ⌝ }
     ensures { λ r. ⌜ (r .used ≤ length (now (piece .entry))) × (1 ≤ length (now (piece .entry)) → 1 ≤ r .used) × (r .line .len ≤ length (now (buffer .entry))) × (r .at ≤ length (now (out .entry))) ⌝ }
 {
-    let t = lines::take(piece, buffer, line);
+    let t = line_take::take(piece, buffer, line);
     let next = t.line;
     if !t.complete {
         return Progress {
@@ -59,7 +59,7 @@ fn turn(piece: &[u8], buffer: &mut [u8], line: Line, out: &mut [u8], with_column
     let behind = answer_line(buffer, next, out, with_columns);
     Progress {
         used: t.used,
-        line: lines::no_line(),
+        line: line_take::no_line(),
         at: behind,
     }
 }
@@ -100,7 +100,7 @@ fn over(piece: &[u8], buffer: &mut [u8], line: Line, out: &mut [u8], with_column
 fn finish(buffer: &[u8], line: Line, out: &mut [u8], with_columns: bool)
     requires { ⌜ line .len ≤ length (now buffer) ⌝ }
 {
-    if lines::at_end(line) {
+    if line_take::at_end(line) {
         let at = answer_line(buffer, line, out, with_columns);
         io::write_all(STDOUT_FILENO, &out[..at]);
     }
@@ -124,7 +124,7 @@ fn once(input: &mut [u8], buffer: &mut [u8], line: Line, out: &mut [u8], with_co
 }
 
 fn every(input: &mut [u8], buffer: &mut [u8], out: &mut [u8], with_columns: bool) {
-    let mut line = lines::no_line();
+    let mut line = line_take::no_line();
     let mut turns = u64::MAX;
     while turns > 0 {
         let o = once(input, buffer, line, out, with_columns);

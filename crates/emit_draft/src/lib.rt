@@ -1,16 +1,14 @@
-// A whole text that is to be written: how long it is, and its bytes at the front of lent room, where there is room.
+// A whole text that is to be written: how long it is, and its bytes in lent room.
 use emit_edit::EditPieces;
 use emit_location::LocationPieces;
 use emit_piece::OneByte;
 use record::Kind;
-use record::Refusal;
 use record::Span;
-use record::WriteAnswer;
 ghost use mathlib.Core.Path.{_≡_};
 ghost use Prim.Native.Nat.{_+_, _*_, _≤_};
 ghost use lib.ListN.{length};
 ghost use Rattle.lent.specs.Put.{put};
-ghost use Rattle.emit_draft.specs.Texts.{headingText, bodyText, draftText, answered, left};
+ghost use Rattle.emit_draft.specs.Texts.{headingText, bodyText, draftText};
 
 // The accession, the gene in brackets or nothing, and the kind.
 pub struct Heading {
@@ -23,9 +21,9 @@ pub struct Heading {
 
 // A location, and an edit in brackets or none; each may be missing.
 pub struct BodyPieces {
-    pub place: LocationPieces,
+    pub location: LocationPieces,
     pub opening: OneByte,
-    pub row: EditPieces,
+    pub edit: EditPieces,
     pub closing: OneByte,
 }
 
@@ -69,13 +67,13 @@ fn body_len(source: &[u8], b: BodyPieces) -> usize
     requires { ⌜ length (now source) ≤ 4096 ⌝ }
     ensures { λ r. ⌜ (r ≡ length (bodyText (now (source .entry)) b)) × (r ≤ 5 * 4096 + 72) ⌝ }
 {
-    let place = b.place;
+    let location = b.location;
     let opening = b.opening;
-    let row = b.row;
+    let pieces = b.edit;
     let closing = b.closing;
-    emit_location::location_len(source, place)
+    emit_location::location_len(source, location)
         + emit_piece::byte_len(opening)
-        + emit_edit::edit_len(source, row)
+        + emit_edit::edit_len(source, pieces)
         + emit_piece::byte_len(closing)
 }
 
@@ -83,17 +81,17 @@ fn put_body(source: &[u8], out: &mut [u8], at: usize, b: BodyPieces) -> usize
     requires { ⌜ at + length (bodyText (now source) b) ≤ length (now out) ⌝ }
     ensures { λ r. ⌜ (r ≡ at + length (bodyText (now (source .entry)) b)) × (now (out .exit) ≡ put (now (out .entry)) at (bodyText (now (source .entry)) b)) ⌝ }
 {
-    let place = b.place;
+    let location = b.location;
     let opening = b.opening;
-    let row = b.row;
+    let pieces = b.edit;
     let closing = b.closing;
-    let at = emit_location::put_location(source, out, at, place);
+    let at = emit_location::put_location(source, out, at, location);
     let at = emit_piece::put_byte(out, at, opening);
-    let at = emit_edit::put_edit(source, out, at, row);
+    let at = emit_edit::put_edit(source, out, at, pieces);
     emit_piece::put_byte(out, at, closing)
 }
 
-fn draft_len(source: &[u8], d: Draft) -> usize
+pub fn draft_len(source: &[u8], d: Draft) -> usize
     requires { ⌜ length (now source) ≤ 4096 ⌝ }
     ensures { λ r. ⌜ r ≡ length (draftText (now (source .entry)) d) ⌝ }
 {
@@ -102,7 +100,7 @@ fn draft_len(source: &[u8], d: Draft) -> usize
     heading_len(source, heading) + body_len(source, body)
 }
 
-fn put_draft(source: &[u8], out: &mut [u8], at: usize, d: Draft) -> usize
+pub fn put_draft(source: &[u8], out: &mut [u8], at: usize, d: Draft) -> usize
     requires { ⌜ at + length (draftText (now source) d) ≤ length (now out) ⌝ }
     ensures { λ r. ⌜ (r ≡ at + length (draftText (now (source .entry)) d)) × (now (out .exit) ≡ put (now (out .entry)) at (draftText (now (source .entry)) d)) ⌝ }
 {
@@ -110,20 +108,4 @@ fn put_draft(source: &[u8], out: &mut [u8], at: usize, d: Draft) -> usize
     let body = d.body;
     let at = put_heading(source, out, at, heading);
     put_body(source, out, at, body)
-}
-
-// The text at the front of output, where it is not too long and has room; else nothing is written.
-pub fn write_draft(source: &[u8], d: Draft, output: &mut [u8]) -> WriteAnswer
-    requires { ⌜ length (now source) ≤ 4096 ⌝ }
-    ensures { λ r. ⌜ (r ≡ answered (draftText (now (source .entry)) d) (now (output .entry))) × (now (output .exit) ≡ left (draftText (now (source .entry)) d) (now (output .entry))) ⌝ }
-{
-    let n = draft_len(source, d);
-    if 4096 < n {
-        return WriteAnswer::Refused(Refusal::TooLong);
-    }
-    if output.len() < n {
-        return WriteAnswer::Refused(Refusal::NoRoom);
-    }
-    put_draft(source, output, 0, d);
-    WriteAnswer::Written(n)
 }

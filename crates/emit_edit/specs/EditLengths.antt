@@ -1,4 +1,4 @@
--- How long the text of a row is.
+-- How long the text of an edit is.
 use Prim.Native.Nat.{ℕ, _+_}
 use mathlib.Core.Path.{_≡_}
 use mathlib.Core.List.{List}
@@ -10,7 +10,7 @@ use Rattle.emit_edit.specs.Texts.{editText}
 use Rattle.emit_edit.specs.declared.EditPieces.{EditPieces}
 
 module _ (s : List ℕ) where
-  pub row-length : (r : EditPieces)
+  pub pieces-length : (r : EditPieces)
       → length (editText s r) ≡ length (part s (r .first)) + (length (wordText (r .word)) + (length (part s (r .second)) + (length (byteText (r .sign)) + (length (amountText (r .amount)) + (length (wordText (r .joint)) + length (part s (r .last)))))))
   unfolding editText
-  row-length r = simp length-append
+  pieces-length r = simp length-append

@@ -1,4 +1,4 @@
--- The text of a row: its parts one behind the other, spans as parts of a source.
+-- The text of an edit: its pieces one behind the other, spans as parts of a source.
 use Prim.Native.Nat.{ℕ}
 use mathlib.Core.List.{List, _++_}
 use Rattle.grammar.specs.Spans.{part}

@@ -21,17 +21,17 @@ pub struct EditPieces {
 }
 
 // The source's length is bounded so that no sum overflows.
-pub fn edit_len(source: &[u8], row: EditPieces) -> usize
+pub fn edit_len(source: &[u8], pieces: EditPieces) -> usize
     requires { ⌜ length (now source) ≤ 4096 ⌝ }
-    ensures { λ r. ⌜ (r ≡ length (editText (now (source .entry)) row)) × (r ≤ 3 * 4096 + 23) ⌝ }
+    ensures { λ r. ⌜ (r ≡ length (editText (now (source .entry)) pieces)) × (r ≤ 3 * 4096 + 23) ⌝ }
 {
-    let first = row.first;
-    let word = row.word;
-    let second = row.second;
-    let sign = row.sign;
-    let amount = row.amount;
-    let joint = row.joint;
-    let last = row.last;
+    let first = pieces.first;
+    let word = pieces.word;
+    let second = pieces.second;
+    let sign = pieces.sign;
+    let amount = pieces.amount;
+    let joint = pieces.joint;
+    let last = pieces.last;
     emit_piece::part_len(source, first)
         + emit_word::word_len(word)
         + emit_piece::part_len(source, second)
@@ -41,18 +41,18 @@ pub fn edit_len(source: &[u8], row: EditPieces) -> usize
         + emit_piece::part_len(source, last)
 }
 
-// Writes a row at a place where there is room for it, and gives the place behind it.
-pub fn put_edit(source: &[u8], out: &mut [u8], at: usize, row: EditPieces) -> usize
-    requires { ⌜ at + length (editText (now source) row) ≤ length (now out) ⌝ }
-    ensures { λ r. ⌜ (r ≡ at + length (editText (now (source .entry)) row)) × (now (out .exit) ≡ put (now (out .entry)) at (editText (now (source .entry)) row)) ⌝ }
+// Writes an edit at a place where there is room for it, and gives the place behind it.
+pub fn put_edit(source: &[u8], out: &mut [u8], at: usize, pieces: EditPieces) -> usize
+    requires { ⌜ at + length (editText (now source) pieces) ≤ length (now out) ⌝ }
+    ensures { λ r. ⌜ (r ≡ at + length (editText (now (source .entry)) pieces)) × (now (out .exit) ≡ put (now (out .entry)) at (editText (now (source .entry)) pieces)) ⌝ }
 {
-    let first = row.first;
-    let word = row.word;
-    let second = row.second;
-    let sign = row.sign;
-    let amount = row.amount;
-    let joint = row.joint;
-    let last = row.last;
+    let first = pieces.first;
+    let word = pieces.word;
+    let second = pieces.second;
+    let sign = pieces.sign;
+    let amount = pieces.amount;
+    let joint = pieces.joint;
+    let last = pieces.last;
     let at = emit_piece::put_part(source, out, at, first);
     let at = emit_word::put_word(out, at, word);
     let at = emit_piece::put_part(source, out, at, second);

@@ -48,7 +48,7 @@ fn answer_of(state: FrameState, buffer: &[u8]) -> FrameAnswer
 pub fn feed(state: FrameState, piece: &[u8], buffer: &mut [u8; 4096]) -> Fed
     ensures { λ r. ⌜ Feeds (record { state = state; buffer = now (buffer .entry) }) (now (piece .entry)) (r .used) (r .len) (frameOutcome (r .answer)) (record { state = r .state; buffer = now (buffer .exit) }) ⌝ }
 {
-    let t = frames::take(piece, buffer, state);
+    let t = frame_take::take(piece, buffer, state);
     let next = t.state;
     let len = next.len;
     if !t.ended {
@@ -60,7 +60,7 @@ pub fn feed(state: FrameState, piece: &[u8], buffer: &mut [u8; 4096]) -> Fed
         };
     }
     let answer = answer_of(next, buffer);
-    let start = frames::fresh();
+    let start = frame_take::fresh();
     Fed {
         used: t.used,
         len,

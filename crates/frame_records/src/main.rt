@@ -96,7 +96,7 @@ fn once(input: &mut [u8], buffer: &mut [u8; 4096], state: FrameState, out: &mut 
 }
 
 fn every(input: &mut [u8], buffer: &mut [u8; 4096], out: &mut [u8]) {
-    let mut state = frames::fresh();
+    let mut state = frame_take::fresh();
     let mut turns = u64::MAX;
     while turns > 0 {
         let o = once(input, buffer, state, out);

@@ -42,7 +42,7 @@ fn all(input: &mut [u8], buffer: &mut [u8], out: &mut [u8]) -> bool
     requires { ⌜ 4097 ≤ length (now out) ⌝ }
     ensures { λ r. ⌜ Ran (now (buffer .entry)) r (now (input .exit)) (now (buffer .exit)) (now (out .exit)) ⌝ }
 {
-    let mut next = Next::Read(lines::no_line());
+    let mut next = Next::Read(line_take::no_line());
     let mut turns = u64::MAX;
     while turns > 0 {
         if let Next::Stop(well) = next {

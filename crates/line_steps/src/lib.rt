@@ -30,7 +30,7 @@ fn turn(piece: &[u8], buffer: &mut [u8], line: Line, out: &mut [u8], at: usize) 
     requires { ⌜ (line .len ≤ length (now buffer)) × (at + 4097 ≤ length (now out)) ⌝ }
     ensures { λ r. ⌜ (r ≡ wentTo lineAnswer (now (buffer .entry)) line (now (piece .entry)) at) × (now (out .exit) ≡ put (now (out .entry)) at (said lineAnswer (now (buffer .entry)) line (now (piece .entry)))) × (now (buffer .exit) ≡ stored (now (buffer .entry)) line (now (piece .entry))) ⌝ }
 {
-    let t = lines::take(piece, buffer, line);
+    let t = line_take::take(piece, buffer, line);
     let next = t.line;
     if !t.complete {
         return Progress {
@@ -42,7 +42,7 @@ fn turn(piece: &[u8], buffer: &mut [u8], line: Line, out: &mut [u8], at: usize) 
     let behind = put_line(buffer, next, out, at);
     Progress {
         used: t.used,
-        line: lines::no_line(),
+        line: line_take::no_line(),
         at: behind,
     }
 }
@@ -81,7 +81,7 @@ pub fn finish(buffer: &[u8], line: Line, out: &mut [u8]) -> usize
     requires { ⌜ (line .len ≤ length (now buffer)) × (4097 ≤ length (now out)) ⌝ }
     ensures { λ r. ⌜ (r ≡ length (finished (writes lineAnswer) (clear (now (buffer .entry)) line))) × (now (out .exit) ≡ put (now (out .entry)) 0 (finished (writes lineAnswer) (clear (now (buffer .entry)) line))) ⌝ }
 {
-    if lines::at_end(line) {
+    if line_take::at_end(line) {
         return put_line(buffer, line, out, 0);
     }
     0

@@ -1,4 +1,4 @@
--- What the planners of edits share: a row or no text, rows of letters, and the numbers that may be written.
+-- What the planners of edits share: the pieces of an edit or no text, pieces of letters, and the numbers that may be written.
 use Prim.Native.Nat.{ℕ}
 use mathlib.Core.List.{List}
 use mathlib.Core.Option.{Option, none, some}
@@ -20,11 +20,11 @@ use Rattle.plan_edits.specs.declared.EditPlan.the-variants.{NoText, Text
 -- the text of a plan, where it has one
 abbrev pub planText : List ℕ → EditPlan → Option (List ℕ)
 planText s NoText = none
-planText s (Text row) = some (editText s row)
+planText s (Text pieces) = some (editText s pieces)
 
--- a row that a test lets through
+-- pieces that a test lets through
 abbrev pub editIf : Bool → EditPieces → EditPlan
-editIf b row = cond b (Text row) NoText
+editIf b pieces = cond b (Text pieces) NoText
 
 -- letters, a word, letters
 abbrev pub lettersEdit : Span → Word → Span → EditPieces

@@ -38,11 +38,11 @@ module _ (s : List ℕ) where
     either true x y o u f g = f refl
     either false x y o u f g = g refl
 
-    pub row-text : (row : EditPieces) (t : A) → editText s row ≡ print t → planText s (Text row) ≡ mapO print (some t)
-    row-text row t e = rw e
+    pub pieces-text : (pieces : EditPieces) (t : A) → editText s pieces ≡ print t → planText s (Text pieces) ≡ mapO print (some t)
+    pieces-text pieces t e = rw e
 
-    pub edit-if : (b : Bool) (row : EditPieces) (t : A) → editText s row ≡ print t → planText s (editIf b row) ≡ mapO print (cond b (some t) none)
-    edit-if b row t e = either b (Text row) NoText (some t) none (λ h. row-text row t e) (λ h. refl)
+    pub edit-if : (b : Bool) (pieces : EditPieces) (t : A) → editText s pieces ≡ print t → planText s (editIf b pieces) ≡ mapO print (cond b (some t) none)
+    edit-if b pieces t e = either b (Text pieces) NoText (some t) none (λ h. pieces-text pieces t e) (λ h. refl)
 
 pub unsigned-digits : (z : ℤ) → unsignedDigits z ≡ cond (isUnsigned z) (some (dec (natAbs z))) none
 unsigned-digits (pos v) = refl

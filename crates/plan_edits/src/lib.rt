@@ -1,4 +1,4 @@
-// What the planners of edits share: a row or no text, rows of letters, and the numbers that may be written.
+// What the planners of edits share: the pieces of an edit or no text, pieces of letters, and the numbers that may be written.
 use emit_edit::EditPieces;
 use emit_piece::Amount;
 use emit_piece::OneByte;
@@ -9,17 +9,17 @@ ghost use Rattle.plan_edits.specs.EditPlans.{editIf, lettersEdit, wordEd
 
 pub const NO_SPAN: Span = Span { start: 0, end: 0 };
 
-// The row whose text is to be written, where there is one.
+// The edit whose text is to be written, where there is one.
 pub enum EditPlan {
     NoText,
     Text(EditPieces),
 }
 
-pub fn edit_if(b: bool, row: EditPieces) -> EditPlan
-    ensures { λ r. ⌜ r ≡ editIf b row ⌝ }
+pub fn edit_if(b: bool, pieces: EditPieces) -> EditPlan
+    ensures { λ r. ⌜ r ≡ editIf b pieces ⌝ }
 {
     if b {
-        return EditPlan::Text(row);
+        return EditPlan::Text(pieces);
     }
     EditPlan::NoText
 }

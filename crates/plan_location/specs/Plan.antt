@@ -28,7 +28,7 @@ use Rattle.emit_location.specs.declared.PositionPieces.{PositionPieces}
 use Rattle.plan_location.specs.declared.PositionPlan.{PositionPlan}
 use Rattle.plan_location.specs.declared.PositionPlan.the-variants as Ends
 use Rattle.plan_location.specs.declared.LocationPlan.{LocationPlan}
-use Rattle.plan_location.specs.declared.LocationPlan.the-variants as Places
+use Rattle.plan_location.specs.declared.LocationPlan.the-variants as Locations
 
 -- ---- numbers: an i32 holds them, as every number of a record
 unfoldable pub held : ℤ → Bool
@@ -88,15 +88,15 @@ positionPlan s Rna p = basedPlan From.Start (p .number) (p .offset)
 abbrev pub bracketMark : Bool → ℕ → OneByte
 bracketMark isCertain b = cond isCertain Nothing (Byte b)
 
-abbrev pub placePlan : Bool → PositionPlan → OneByte → PositionPlan → LocationPlan
-placePlan isCertain (Ends.Text e) m (Ends.Text f) =
-    Places.Text (record { opening = bracketMark isCertain (code "("); start = e; joint = m; end = f; closing = bracketMark isCertain (code ")") })
-placePlan isCertain (Ends.Text e) m Ends.NoText = Places.NoText
-placePlan isCertain Ends.NoText m f = Places.NoText
+abbrev pub locationPlan : Bool → PositionPlan → OneByte → PositionPlan → LocationPlan
+locationPlan isCertain (Ends.Text e) m (Ends.Text f) =
+    Locations.Text (record { opening = bracketMark isCertain (code "("); start = e; joint = m; end = f; closing = bracketMark isCertain (code ")") })
+locationPlan isCertain (Ends.Text e) m Ends.NoText = Locations.NoText
+locationPlan isCertain Ends.NoText m f = Locations.NoText
 
 -- one position where both ends are one, else two
 unfoldable pub planLocation : List ℕ → Kind → Location → LocationPlan
 planLocation s k l =
     cond (samePosition s k (l .start) (l .end))
-    (placePlan (l .certain) (positionPlan s k (l .start)) Nothing (Ends.Text noEnd))
-    (placePlan (l .certain) (positionPlan s k (l .start)) (Byte (code "_")) (positionPlan s k (l .end)))
+    (locationPlan (l .certain) (positionPlan s k (l .start)) Nothing (Ends.Text noEnd))
+    (locationPlan (l .certain) (positionPlan s k (l .start)) (Byte (code "_")) (positionPlan s k (l .end)))

@@ -50,8 +50,8 @@ use Rattle.emit_piece.specs.declared.OneByte.the-variants.{Nothing, Byte}
 use Rattle.plan_location.specs.declared.PositionPlan.{PositionPlan}
 use Rattle.plan_location.specs.declared.PositionPlan.the-variants as Ends
 use Rattle.plan_location.specs.declared.LocationPlan.{LocationPlan}
-use Rattle.plan_location.specs.declared.LocationPlan.the-variants as Places
-use Rattle.plan_location.specs.Plan.{held, heldOffset, offsetSign, offsetAmount, endPlan, unsignedPlan, basedPlan, unknownEnd, genomicPlan, residualPlan, positionPlan, bracketMark, placePlan, planLocation}
+use Rattle.plan_location.specs.declared.LocationPlan.the-variants as Locations
+use Rattle.plan_location.specs.Plan.{held, heldOffset, offsetSign, offsetAmount, endPlan, unsignedPlan, basedPlan, unknownEnd, genomicPlan, residualPlan, positionPlan, bracketMark, locationPlan, planLocation}
 
 module _ (s : List ℕ) where
   abbrev pub endPlanText : PositionPlan → Option (List ℕ)
@@ -59,8 +59,8 @@ module _ (s : List ℕ) where
   endPlanText (Ends.Text e) = some (positionText s e)
 
   abbrev pub planText : LocationPlan → Option (List ℕ)
-  planText Places.NoText = none
-  planText (Places.Text p) = some (locationText s p)
+  planText Locations.NoText = none
+  planText (Locations.Text p) = some (locationText s p)
 
 -- ---- offsets
 abbrev offsetText : Declared.Offset → List ℕ
@@ -168,7 +168,7 @@ module _ (s : List ℕ) {A : Type 0} (print : A → List ℕ) (isCertain : Bool)
   abbrev canonText : Option (Interval A) → Option (List ℕ)
   canonText o = mapO (printMu (printInterval print)) (mapO (muOf isCertain) o)
 
-  one-text : (x : PositionPlan) (o : Option A) → endPlanText s x ≡ mapO print o → planText s (placePlan isCertain x Nothing (Ends.Text noEnd)) ≡ canonText (mapO one o)
+  one-text : (x : PositionPlan) (o : Option A) → endPlanText s x ≡ mapO print o → planText s (locationPlan isCertain x Nothing (Ends.Text noEnd)) ≡ canonText (mapO one o)
   unfolding locationText
   one-text Ends.NoText none e = refl
   one-text Ends.NoText (some a) e = absurd (none-some e)
@@ -180,7 +180,7 @@ module _ (s : List ℕ) {A : Type 0} (print : A → List ℕ) (isCertain : Bool)
       go false = refl
 
   two-text : (x y : PositionPlan) (o u : Option A) → endPlanText s x ≡ mapO print o → endPlanText s y ≡ mapO print u
-      → planText s (placePlan isCertain x (Byte (code "_")) y) ≡ canonText (bothO two o u)
+      → planText s (locationPlan isCertain x (Byte (code "_")) y) ≡ canonText (bothO two o u)
   unfolding locationText
   two-text Ends.NoText y none u e f = refl
   two-text Ends.NoText y (some a) u e f = absurd (none-some e)
@@ -198,7 +198,7 @@ module _ (s : List ℕ) {A : Type 0} (print : A → List ℕ) (isCertain : Bool)
       go false = ap (λ (x : List ℕ). code "(" ∷ x) (sym (append-assoc (print a) (ascii "_" ++ print b) (ascii ")")))
 
   ends-text : (isOne : Bool) (x y : PositionPlan) (o u : Option A) → endPlanText s x ≡ mapO print o → endPlanText s y ≡ mapO print u
-      → planText s (cond isOne (placePlan isCertain x Nothing (Ends.Text noEnd)) (placePlan isCertain x (Byte (code "_")) y)) ≡ canonText (cond isOne (mapO one o) (bothO two o u))
+      → planText s (cond isOne (locationPlan isCertain x Nothing (Ends.Text noEnd)) (locationPlan isCertain x (Byte (code "_")) y)) ≡ canonText (cond isOne (mapO one o) (bothO two o u))
   ends-text true x y o u e f = one-text x o e
   ends-text false x y o u e f = two-text x y o u e f
 

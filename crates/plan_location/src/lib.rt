@@ -12,7 +12,7 @@ use record::Span;
 ghost use mathlib.Core.Path.{_≡_};
 ghost use mathlib.Core.Bool.{true};
 ghost use Rattle.alphabet.specs.Cells.{IsTable};
-ghost use Rattle.plan_location.specs.Plan.{heldOffset, signMark, offsetSign, offsetAmount, endPlan, unsignedPlan, basedPlan, genomicPlan, residualPlan, positionPlan, bracketMark, placePlan, planLocation};
+ghost use Rattle.plan_location.specs.Plan.{heldOffset, signMark, offsetSign, offsetAmount, endPlan, unsignedPlan, basedPlan, genomicPlan, residualPlan, positionPlan, bracketMark, locationPlan, planLocation};
 
 pub const NO_END: PositionPieces = PositionPieces {
     residue: plan_edits::NO_SPAN,
@@ -161,7 +161,7 @@ pub fn bracket(certain: bool, b: u8) -> OneByte
 }
 
 fn plan_place(certain: bool, start: PositionPlan, joint: OneByte, end: PositionPlan) -> LocationPlan
-    ensures { λ r. ⌜ r ≡ placePlan certain start joint end ⌝ }
+    ensures { λ r. ⌜ r ≡ locationPlan certain start joint end ⌝ }
 {
     let PositionPlan::Text(first) = start else {
         return LocationPlan::NoText;

@@ -30,23 +30,23 @@ use Rattle.emit_edit.specs.Texts.{editText}
 use Rattle.emit_location.specs.Texts.{locationText}
 use Rattle.emit_edit.specs.declared.EditPieces.{EditPieces}
 use Rattle.plan_edits.specs.declared.EditPlan.{EditPlan}
-use Rattle.plan_edits.specs.declared.EditPlan.the-variants as Rows
+use Rattle.plan_edits.specs.declared.EditPlan.the-variants as Edits
 use Rattle.plan_edits.specs.EditPlans as R
 use Rattle.emit_draft.specs.Texts.{bodyText}
 use Rattle.lang_canon.specs.Changes.{noRefNaEdit, changedNaEdit}
 use Rattle.lang_canon.specs.NoRefCanon.{no-ref-edit}
 use Rattle.lang_canon.specs.Wording.{wordedNaEdit, wordedNaBody}
 use Rattle.plan_location.specs.declared.LocationPlan.{LocationPlan}
-use Rattle.plan_location.specs.declared.LocationPlan.the-variants as Places
+use Rattle.plan_location.specs.declared.LocationPlan.the-variants as Locations
 use Rattle.plan_location.specs.Plan.{bracketMark, planLocation}
 use Rattle.plan_location.specs.Planned as L
 use Rattle.plan_location.specs.Planned.{muOf}
 use Rattle.plan_na_edit.specs.Plan.{planNaEdit}
-use Rattle.plan_no_ref.specs.NoRef.{noRefRow, no-ref-text}
+use Rattle.plan_no_ref.specs.NoRef.{noRefPieces, no-ref-text}
 use Rattle.plan_na_edit.specs.Planned as E
 use Rattle.plan_na_body.specs.declared.BodyPlan.{BodyPlan}
 use Rattle.plan_na_body.specs.declared.BodyPlan.the-variants.{NoText, Text}
-use Rattle.plan_na_body.specs.Plan.{joinedPlan, replacedRow, naRow, planNaBody}
+use Rattle.plan_na_body.specs.Plan.{joinedPlan, replacedPieces, naPieces, planNaBody}
 
 -- a text in brackets where it is not certain
 abbrev pub wrapped : Bool → List ℕ → List ℕ
@@ -77,38 +77,38 @@ module _ (s : List ℕ) where
   joined-text : {A B : Type 0} (f : A → List ℕ) (g : B → List ℕ) (isCertain : Bool) (x : LocationPlan) (y : EditPlan) (o : Option A) (u : Option B) → L.planText s x ≡ mapO f o → R.planText s y ≡ mapO g u
       → planText (joinedPlan isCertain x y) ≡ bothO (λ a b. f a ++ wrapped isCertain (g b)) o u
   unfolding bodyText
-  joined-text f g t Places.NoText y none u e h = refl
-  joined-text f g t Places.NoText y (some a) u e h = absurd (none-some e)
-  joined-text f g t (Places.Text p) y none u e h = absurd (none-some (sym e))
-  joined-text f g t (Places.Text p) Rows.NoText (some a) none e h = refl
-  joined-text f g t (Places.Text p) Rows.NoText (some a) (some b) e h = absurd (none-some h)
-  joined-text f g t (Places.Text p) (Rows.Text row) (some a) none e h = absurd (none-some (sym h))
-  joined-text f g t (Places.Text p) (Rows.Text row) (some a) (some b) e h =
+  joined-text f g t Locations.NoText y none u e h = refl
+  joined-text f g t Locations.NoText y (some a) u e h = absurd (none-some e)
+  joined-text f g t (Locations.Text p) y none u e h = absurd (none-some (sym e))
+  joined-text f g t (Locations.Text p) Edits.NoText (some a) none e h = refl
+  joined-text f g t (Locations.Text p) Edits.NoText (some a) (some b) e h = absurd (none-some h)
+  joined-text f g t (Locations.Text p) (Edits.Text pieces) (some a) none e h = absurd (none-some (sym h))
+  joined-text f g t (Locations.Text p) (Edits.Text pieces) (some a) (some b) e h =
       let i : locationText s p ≡ f a = cc in
-      let j : editText s row ≡ g b = cc in
+      let j : editText s pieces ≡ g b = cc in
       rw (i, j) (ap (λ (w : List ℕ). some (f a ++ w)) (bracketed t (g b)))
 
-  -- another row for an edit that has a text
-  replaced-text : (planned : EditPlan) (row : EditPieces) (o u : Option Tree.NaEditTree) → R.planText s planned ≡ mapO printNaEdit o → ((t : Tree.NaEditTree) → o ≡ some t → mapO printNaEdit u ≡ some (editText s row)) → R.planText s (replacedRow planned row) ≡ mapO printNaEdit (ifSome o u)
-  replaced-text Rows.NoText row none u e h = refl
-  replaced-text Rows.NoText row (some t) u e h = absurd (none-some e)
-  replaced-text (Rows.Text planned) row none u e h = absurd (none-some (sym e))
-  replaced-text (Rows.Text planned) row (some t) u e h = sym (h t refl)
+  -- other pieces for an edit that has a text
+  replaced-text : (planned : EditPlan) (pieces : EditPieces) (o u : Option Tree.NaEditTree) → R.planText s planned ≡ mapO printNaEdit o → ((t : Tree.NaEditTree) → o ≡ some t → mapO printNaEdit u ≡ some (editText s pieces)) → R.planText s (replacedPieces planned pieces) ≡ mapO printNaEdit (ifSome o u)
+  replaced-text Edits.NoText pieces none u e h = refl
+  replaced-text Edits.NoText pieces (some t) u e h = absurd (none-some e)
+  replaced-text (Edits.Text planned) pieces none u e h = absurd (none-some (sym e))
+  replaced-text (Edits.Text planned) pieces (some t) u e h = sym (h t refl)
 
-  row-text : (w : Wording) (e : NaEdit) → R.planText s (naRow s w e) ≡ mapO printNaEdit (wordedNaEdit nucleotide w (naEditContent s e))
-  unfolding naRow
-  row-text Shortest e = rw (if-same (canonNaEdit nucleotide (naEditContent s e))) (E.planned s e)
-  row-text NoRef e =
+  pieces-text : (w : Wording) (e : NaEdit) → R.planText s (naPieces s w e) ≡ mapO printNaEdit (wordedNaEdit nucleotide w (naEditContent s e))
+  unfolding naPieces
+  pieces-text Shortest e = rw (if-same (canonNaEdit nucleotide (naEditContent s e))) (E.planned s e)
+  pieces-text NoRef e =
       let v = naEditContent s e in
-      replaced-text (planNaEdit s e) (noRefRow s e) (canonNaEdit nucleotide v) (canonNaEdit nucleotide (noRefNaEdit v)) (E.planned s e) (λ t q. rw (no-ref-text s e) (no-ref-edit nucleotide v t q))
+      replaced-text (planNaEdit s e) (noRefPieces s e) (canonNaEdit nucleotide v) (canonNaEdit nucleotide (noRefNaEdit v)) (E.planned s e) (λ t q. rw (no-ref-text s e) (no-ref-edit nucleotide v t q))
 
   body-text : (w : Wording) (isCertain : Bool) (k : Kind) (l : MuIntervalR k) (e : NaEdit)
-      → planText (joinedPlan isCertain (planLocation s k (anyLocation k l)) (naRow s w e))
+      → planText (joinedPlan isCertain (planLocation s k (anyLocation k l)) (naPieces s w e))
       ≡ mapO (printNaBody k) (bothO both (locationCanon k .canon (locationContent s k l)) (mapO (muOf isCertain) (wordedNaEdit nucleotide w (naEditContent s e))))
   body-text w c k l e =
       let o = locationCanon k .canon (locationContent s k l) in
       let u = wordedNaEdit nucleotide w (naEditContent s e) in
-      joined-text (printLocation k) printNaEdit c (planLocation s k (anyLocation k l)) (naRow s w e) o u (L.planned-record s k l) (row-text w e) ∙ body-is c k o u
+      joined-text (printLocation k) printNaEdit c (planLocation s k (anyLocation k l)) (naPieces s w e) o u (L.planned-record s k l) (pieces-text w e) ∙ body-is c k o u
 
   -- what is planned is the canonical text of the changed body; and nothing where the body as it came has none
   pub planned-na : (w : Wording) (k : Kind) (l : MuIntervalR k) (e : MuNaEdit)

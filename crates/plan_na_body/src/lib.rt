@@ -9,7 +9,7 @@ use record::NaEdit;
 use record::Wording;
 ghost use mathlib.Core.Path.{_≡_};
 ghost use Rattle.alphabet.specs.Cells.{IsTable};
-ghost use Rattle.plan_na_body.specs.Plan.{joinedPlan, naRow, isCertain, editOf, planNaBody};
+ghost use Rattle.plan_na_body.specs.Plan.{joinedPlan, naPieces, isCertain, editOf, planNaBody};
 
 // A body that is to be written, where it has a text.
 pub enum BodyPlan {
@@ -17,36 +17,36 @@ pub enum BodyPlan {
     Text(BodyPieces),
 }
 
-fn joined(certain: bool, place: LocationPlan, row: EditPlan) -> BodyPlan
-    ensures { λ r. ⌜ r ≡ joinedPlan certain place row ⌝ }
+fn joined(certain: bool, location: LocationPlan, pieces: EditPlan) -> BodyPlan
+    ensures { λ r. ⌜ r ≡ joinedPlan certain location pieces ⌝ }
 {
-    let LocationPlan::Text(place) = place else {
+    let LocationPlan::Text(location) = location else {
         return BodyPlan::NoText;
     };
-    let EditPlan::Text(row) = row else {
+    let EditPlan::Text(pieces) = pieces else {
         return BodyPlan::NoText;
     };
     BodyPlan::Text(BodyPieces {
-        place,
+        location,
         opening: plan_location::bracket(certain, b'('),
-        row,
+        edit: pieces,
         closing: plan_location::bracket(certain, b')'),
     })
 }
 
 // An edit that has no text has none in any wording.
-fn na_row(table: &[u8; 256], source: &[u8], wording: Wording, e: NaEdit) -> EditPlan
+fn na_pieces(table: &[u8; 256], source: &[u8], wording: Wording, e: NaEdit) -> EditPlan
     requires { ⌜ IsTable (now table) ⌝ }
-    ensures { λ r. ⌜ r ≡ naRow (now (source .entry)) wording e ⌝ }
+    ensures { λ r. ⌜ r ≡ naPieces (now (source .entry)) wording e ⌝ }
 {
     let planned = plan_na_edit::plan_na_edit(table, source, e);
     match wording {
         Wording::Shortest => planned,
         Wording::NoRef => {
-            let row = plan_no_ref::no_ref(source, e);
+            let pieces = plan_no_ref::no_ref(source, e);
             match planned {
                 EditPlan::NoText => EditPlan::NoText,
-                EditPlan::Text(_) => EditPlan::Text(row),
+                EditPlan::Text(_) => EditPlan::Text(pieces),
             }
         }
     }
@@ -81,7 +81,7 @@ pub fn plan_na_body(
     requires { ⌜ IsTable (now table) ⌝ }
     ensures { λ r. ⌜ r ≡ planNaBody (now (source .entry)) wording kind l e ⌝ }
 {
-    let place = plan_location::plan_location(table, source, kind, l);
-    let row = na_row(table, source, wording, edit_of(e));
-    joined(is_certain(e), place, row)
+    let location = plan_location::plan_location(table, source, kind, l);
+    let pieces = na_pieces(table, source, wording, edit_of(e));
+    joined(is_certain(e), location, pieces)
 }

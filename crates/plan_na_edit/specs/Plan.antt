@@ -1,4 +1,4 @@
--- The row to be written for a nucleotide edit: the cases of its canonical tree, with spans for letters.
+-- The pieces to be written for a nucleotide edit: the cases of its canonical tree, with spans for letters.
 use Prim.Native.Nat.{ℕ}
 use mathlib.Core.List.{List}
 use mathlib.Core.Bool.{cond, _&&_}
@@ -21,15 +21,15 @@ use Rattle.plan_edits.specs.declared.EditPlan.the-variants.{NoText, Text}
 use Rattle.plan_na_tests.specs.Tests.{isSeq, isSeq1, sameParts, oneEachParts}
 
 -- `del` letters `ins` letters
-abbrev pub delInsRow : Span → Span → EditPieces
-delInsRow p q = record { first = noSpan; word = Del; second = p; sign = Nothing; amount = Absent; joint = Ins; last = q }
+abbrev pub delInsPieces : Span → Span → EditPieces
+delInsPieces p q = record { first = noSpan; word = Del; second = p; sign = Nothing; amount = Absent; joint = Ins; last = q }
 
 -- a word, a number, a word, letters
-abbrev pub countRow : Word → ℕ → Word → Span → EditPieces
-countRow word v joint q = record { first = noSpan; word = word; second = noSpan; sign = Nothing; amount = Count v; joint = joint; last = q }
+abbrev pub countPieces : Word → ℕ → Word → Span → EditPieces
+countPieces word v joint q = record { first = noSpan; word = word; second = noSpan; sign = Nothing; amount = Count v; joint = joint; last = q }
 
 abbrev pub planCount : Word → ℤ → Word → Span → EditPlan
-planCount word n joint q = editIf (isUnsigned n) (countRow word (natAbs n) joint q)
+planCount word n joint q = editIf (isUnsigned n) (countPieces word (natAbs n) joint q)
 
 module _ (s : List ℕ) where
   -- `a=`, else `A>T`, else `del` a `ins` b with letters b
@@ -37,7 +37,7 @@ module _ (s : List ℕ) where
   planChange p q =
       cond (sameParts s p q) (Text (lettersEdit p Equal noSpan))
       (cond (oneEachParts s p q) (Text (lettersEdit p Greater q))
-      (editIf (leb 1 (length (part s q))) (delInsRow p q)))
+      (editIf (leb 1 (length (part s q))) (delInsPieces p q)))
 
   unfoldable pub planRefAlt : Span → Span → EditPlan
   planRefAlt p q = cond (isSeq s p && isSeq s q) (planChange p q) NoText

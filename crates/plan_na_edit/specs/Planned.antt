@@ -1,4 +1,4 @@
--- The text of a planned row is that of the edit's canonical tree.
+-- The text of planned pieces is that of the edit's canonical tree.
 use Prim.Native.Nat.{ℕ}
 use mathlib.Core.Path.{_≡_, refl, ap, _∙_}
 use mathlib.Core.List.{List, _∷_, _++_, append-nil}
@@ -28,11 +28,11 @@ use Rattle.emit_piece.specs.Texts.{noSpan}
 use Rattle.emit_edit.specs.Texts.{editText}
 use Rattle.emit_piece.specs.PartLengths.{no-part}
 use Rattle.plan_edits.specs.EditPlans.{planText, lettersEdit, isUnsigned}
-use Rattle.plan_edits.specs.PlanTexts.{letters-text, word-text, either, row-text, edit-if, unsigned-digits}
+use Rattle.plan_edits.specs.PlanTexts.{letters-text, word-text, either, pieces-text, edit-if, unsigned-digits}
 use Rattle.plan_na_tests.specs.Tests.{isSeq, isSeq1, sameParts, oneEachParts}
-use Rattle.plan_na_edit.specs.Plan.{delInsRow, countRow, planChange, planRefAlt, planNumAlt, planCount, planNaEdit}
+use Rattle.plan_na_edit.specs.Plan.{delInsPieces, countPieces, planChange, planRefAlt, planNumAlt, planCount, planNaEdit}
 
--- ---- the texts of the rows
+-- ---- the texts of the pieces
 counted-is : (f : List ℕ → Tree.NaEditTree) (n : ℤ) → mapO f (unsignedDigits n) ≡ cond (isUnsigned n) (some (f (dec (natAbs n)))) none
 counted-is f n = rw (unsigned-digits n) (go (isUnsigned n))
   where
@@ -41,11 +41,11 @@ counted-is f n = rw (unsigned-digits n) (go (isUnsigned n))
     go false = refl
 
 module _ (s : List ℕ) where
-  count-text : (word : Word) (v : ℕ) (joint : Word) (q : Span) → editText s (countRow word v joint q) ≡ wordText word ++ (dec v ++ (wordText joint ++ part s q))
+  count-text : (word : Word) (v : ℕ) (joint : Word) (q : Span) → editText s (countPieces word v joint q) ≡ wordText word ++ (dec v ++ (wordText joint ++ part s q))
   unfolding editText
   count-text word v joint q = rw (no-part s)
 
-  change-text : (p q : Span) → editText s (delInsRow p q) ≡ ascii "del" ++ (part s p ++ (ascii "ins" ++ part s q))
+  change-text : (p q : Span) → editText s (delInsPieces p q) ≡ ascii "del" ++ (part s p ++ (ascii "ins" ++ part s q))
   unfolding editText
   change-text p q = rw (no-part s)
 
@@ -63,9 +63,9 @@ module _ (s : List ℕ) where
   unfolding planChange
   change-planned p q =
       either s printNaEdit (sameParts s p q) _ _ _ _
-      (λ h. row-text s printNaEdit _ (equal (part s p)) (equal-text p))
+      (λ h. pieces-text s printNaEdit _ (equal (part s p)) (equal-text p))
       (λ h. either s printNaEdit (oneEachParts s p q) _ _ _ _
-      (λ k. row-text s printNaEdit _ (swap (getD (part s p) 0 0) (getD (part s q) 0 0)) (swap-text p q k))
+      (λ k. pieces-text s printNaEdit _ (swap (getD (part s p) 0 0) (getD (part s q) 0 0)) (swap-text p q k))
       (λ k. edit-if s printNaEdit (leb 1 (length (part s q))) _ (delIns (part s p) (part s q)) (change-text p q)))
 
   count-planned : (word : Word) (joint : Word) (q : Span) (f : List ℕ → Tree.NaEditTree) (n : ℤ) → ((ds : List ℕ) → wordText word ++ (ds ++ (wordText joint ++ part s q)) ≡ printNaEdit (f ds))

@@ -1,4 +1,4 @@
-// Which text is to be written for a nucleotide edit: a row of pieces, or none.
+// Which text is to be written for a nucleotide edit: its pieces, or none.
 use emit_edit::EditPieces;
 use emit_piece::Amount;
 use emit_piece::OneByte;
@@ -8,12 +8,12 @@ use record::NaEdit;
 use record::Span;
 ghost use mathlib.Core.Path.{_≡_};
 ghost use Rattle.alphabet.specs.Cells.{IsTable};
-ghost use Rattle.plan_na_edit.specs.Plan.{delInsRow, countRow, planChange, planRefAlt, planNumAlt, planCount, planSeq, planIns, planNaEdit};
+ghost use Rattle.plan_na_edit.specs.Plan.{delInsPieces, countPieces, planChange, planRefAlt, planNumAlt, planCount, planSeq, planIns, planNaEdit};
 
-// ---- rows
+// ---- pieces
 
-fn del_ins_row(p: Span, q: Span) -> EditPieces
-    ensures { λ r. ⌜ r ≡ delInsRow p q ⌝ }
+fn del_ins_pieces(p: Span, q: Span) -> EditPieces
+    ensures { λ r. ⌜ r ≡ delInsPieces p q ⌝ }
 {
     EditPieces {
         first: plan_edits::NO_SPAN,
@@ -26,8 +26,8 @@ fn del_ins_row(p: Span, q: Span) -> EditPieces
     }
 }
 
-fn count_row(word: Word, v: u32, joint: Word, q: Span) -> EditPieces
-    ensures { λ r. ⌜ r ≡ countRow word v joint q ⌝ }
+fn count_pieces(word: Word, v: u32, joint: Word, q: Span) -> EditPieces
+    ensures { λ r. ⌜ r ≡ countPieces word v joint q ⌝ }
 {
     EditPieces {
         first: plan_edits::NO_SPAN,
@@ -51,7 +51,7 @@ fn plan_change(source: &[u8], p: Span, q: Span) -> EditPlan
     if plan_na_tests::one_each_parts(source, p, q) {
         return EditPlan::Text(plan_edits::letters_edit(p, Word::Greater, q));
     }
-    plan_edits::edit_if(plan_na_tests::is_some(source, q), del_ins_row(p, q))
+    plan_edits::edit_if(plan_na_tests::is_some(source, q), del_ins_pieces(p, q))
 }
 
 fn plan_ref_alt(table: &[u8; 256], source: &[u8], p: Span, q: Span) -> EditPlan
@@ -73,7 +73,7 @@ fn plan_count(word: Word, n: i32, joint: Word, q: Span) -> EditPlan
 {
     plan_edits::edit_if(
         plan_edits::is_unsigned(n),
-        count_row(word, emit_number::magnitude(n), joint, q),
+        count_pieces(word, emit_number::magnitude(n), joint, q),
     )
 }
 
@@ -107,7 +107,7 @@ fn plan_ins(table: &[u8; 256], source: &[u8], q: Span) -> EditPlan
     )
 }
 
-// The row of the shortest text of an edit; none where no text reads as it.
+// The pieces of the shortest text of an edit; none where no text reads as it.
 pub fn plan_na_edit(table: &[u8; 256], source: &[u8], e: NaEdit) -> EditPlan
     requires { ⌜ IsTable (now table) ⌝ }
     ensures { λ r. ⌜ r ≡ planNaEdit (now (source .entry)) e ⌝ }

@@ -1,4 +1,4 @@
--- The row to be written for a nucleotide edit without the reference, and that its text is the one promised.
+-- The pieces to be written for a nucleotide edit without the reference, and that its text is the one promised.
 use Prim.Native.Nat.{ℕ}
 use mathlib.Core.Path.{_≡_, refl}
 use mathlib.Core.List.{List}
@@ -21,15 +21,15 @@ module _ (s : List ℕ) where
       cond (sameParts s p q) (wordAlone Equal)
       (cond (oneEachParts s p q) (lettersEdit p Greater q) (wordEdit DelIns q))
 
-  abbrev pub noRefRow : NaEdit → EditPieces
-  noRefRow (Na.RefAlt p q) = noRefAlt p q
-  noRefRow (Na.NumAlt n q) = wordEdit DelIns q
-  noRefRow (Na.DelRef p) = wordAlone Del
-  noRefRow (Na.DelNum n) = wordAlone Del
-  noRefRow (Na.Ins q) = wordEdit Ins q
-  noRefRow (Na.Dup p) = wordAlone Dup
-  noRefRow (Na.InvRef p) = wordAlone Inv
-  noRefRow (Na.InvNum n) = wordAlone Inv
+  abbrev pub noRefPieces : NaEdit → EditPieces
+  noRefPieces (Na.RefAlt p q) = noRefAlt p q
+  noRefPieces (Na.NumAlt n q) = wordEdit DelIns q
+  noRefPieces (Na.DelRef p) = wordAlone Del
+  noRefPieces (Na.DelNum n) = wordAlone Del
+  noRefPieces (Na.Ins q) = wordEdit Ins q
+  noRefPieces (Na.Dup p) = wordAlone Dup
+  noRefPieces (Na.InvRef p) = wordAlone Inv
+  noRefPieces (Na.InvNum n) = wordAlone Inv
 
 -- ---- its text
 module _ (s : List ℕ) where
@@ -42,7 +42,7 @@ module _ (s : List ℕ) where
       go false true e f = rw (e, f, noRefAlt) (letters-text s p Greater q)
       go false false e f = rw (e, f, noRefAlt) (word-text s DelIns q)
 
-  pub no-ref-text : (e : NaEdit) → editText s (noRefRow s e) ≡ noRefEdit (naEditContent s e)
+  pub no-ref-text : (e : NaEdit) → editText s (noRefPieces s e) ≡ noRefEdit (naEditContent s e)
   no-ref-text (Na.RefAlt p q) = no-ref-alt p q
   no-ref-text (Na.NumAlt n q) = word-text s DelIns q
   no-ref-text (Na.DelRef p) = word-alone s Del

@@ -4,7 +4,7 @@ use emit_word::Word;
 use record::NaEdit;
 use record::Span;
 ghost use mathlib.Core.Path.{_≡_};
-ghost use Rattle.plan_no_ref.specs.NoRef.{noRefAlt, noRefRow};
+ghost use Rattle.plan_no_ref.specs.NoRef.{noRefAlt, noRefPieces};
 
 fn no_ref_alt(source: &[u8], p: Span, q: Span) -> EditPieces
     ensures { λ r. ⌜ r ≡ noRefAlt (now (source .entry)) p q ⌝ }
@@ -18,9 +18,9 @@ fn no_ref_alt(source: &[u8], p: Span, q: Span) -> EditPieces
     plan_edits::word_edit(Word::DelIns, q)
 }
 
-// The row of an edit's text without the reference.
+// The pieces of an edit's text without the reference.
 pub fn no_ref(source: &[u8], e: NaEdit) -> EditPieces
-    ensures { λ r. ⌜ r ≡ noRefRow (now (source .entry)) e ⌝ }
+    ensures { λ r. ⌜ r ≡ noRefPieces (now (source .entry)) e ⌝ }
 {
     match e {
         NaEdit::RefAlt(p, q) => no_ref_alt(source, p, q),

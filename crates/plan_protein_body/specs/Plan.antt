@@ -30,35 +30,35 @@ use Rattle.emit_location.specs.declared.LocationPieces.{LocationPieces}
 use Rattle.emit_edit.specs.declared.EditPieces.{EditPieces}
 use Rattle.plan_edits.specs.EditPlans.{wordAlone}
 use Rattle.plan_edits.specs.declared.EditPlan.{EditPlan}
-use Rattle.plan_edits.specs.declared.EditPlan.the-variants as Rows
+use Rattle.plan_edits.specs.declared.EditPlan.the-variants as Edits
 use Rattle.emit_draft.specs.declared.BodyPieces.{BodyPieces}
 use Rattle.plan_location.specs.declared.LocationPlan.{LocationPlan}
-use Rattle.plan_location.specs.declared.LocationPlan.the-variants as Places
+use Rattle.plan_location.specs.declared.LocationPlan.the-variants as Locations
 use Rattle.plan_location.specs.Plan.{bracketMark, planLocation}
 use Rattle.plan_protein_edit.specs.Plan.{planProteinEdit}
 use Rattle.plan_na_body.specs.declared.BodyPlan.{BodyPlan}
 use Rattle.plan_na_body.specs.declared.BodyPlan.the-variants.{NoText, Text}
 
 -- ---- places
-abbrev pub placeAt : PositionPieces → LocationPieces
-placeAt e = record { opening = Nothing; start = e; joint = Nothing; end = noEnd; closing = Nothing }
+abbrev pub loneLocation : PositionPieces → LocationPieces
+loneLocation e = record { opening = Nothing; start = e; joint = Nothing; end = noEnd; closing = Nothing }
 
 abbrev pub met01Place : Span → LocationPieces
-met01Place aa = placeAt (record { residue = aa; mark = Byte (code "0"); number = Count 1; sign = Nothing; offset = Absent })
+met01Place aa = loneLocation (record { residue = aa; mark = Byte (code "0"); number = Count 1; sign = Nothing; offset = Absent })
 
 -- ---- location and edit, in one pair of brackets where both are uncertain
 abbrev pub bodyOf : Bool → Bool → LocationPieces → EditPieces → BodyPieces
-bodyOf isLocated isCertain p row = record {
-  place = record { opening = bracketMark isLocated (code "("); start = p .start; joint = p .joint; end = p .end; closing = bracketMark (isLocated || not isCertain) (code ")") };
+bodyOf isLocated isCertain p pieces = record {
+  location = record { opening = bracketMark isLocated (code "("); start = p .start; joint = p .joint; end = p .end; closing = bracketMark (isLocated || not isCertain) (code ")") };
   opening = bracketMark (isCertain || not isLocated) (code "(");
-  row = row;
+  edit = pieces;
   closing = bracketMark isCertain (code ")");
 }
 
 abbrev pub togetherPlan : Bool → Bool → LocationPlan → EditPlan → BodyPlan
-togetherPlan isLocated isCertain (Places.Text p) (Rows.Text row) = Text (bodyOf isLocated isCertain p row)
-togetherPlan isLocated isCertain (Places.Text p) Rows.NoText = NoText
-togetherPlan isLocated isCertain Places.NoText row = NoText
+togetherPlan isLocated isCertain (Locations.Text p) (Edits.Text pieces) = Text (bodyOf isLocated isCertain p pieces)
+togetherPlan isLocated isCertain (Locations.Text p) Edits.NoText = NoText
+togetherPlan isLocated isCertain Locations.NoText pieces = NoText
 
 -- both certain, or both uncertain
 abbrev pub isAlike : Bool → Bool → Bool
@@ -66,7 +66,7 @@ isAlike isLocated isCertain = cond isLocated isCertain (not isCertain)
 
 -- a word and nothing else
 abbrev pub wordBody : Word → BodyPlan
-wordBody word = Text (record { place = placeAt noEnd; opening = Nothing; row = wordAlone word; closing = Nothing })
+wordBody word = Text (record { location = loneLocation noEnd; opening = Nothing; edit = wordAlone word; closing = Nothing })
 
 module _ (s : List ℕ) where
   -- ---- the Met-1 `?` record

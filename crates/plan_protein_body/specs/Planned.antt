@@ -43,14 +43,14 @@ use Rattle.plan_edits.specs.EditPlans as R
 use Rattle.plan_edits.specs.EditPlans.{wordAlone}
 use Rattle.plan_edits.specs.PlanTexts.{word-alone}
 use Rattle.plan_edits.specs.declared.EditPlan.{EditPlan}
-use Rattle.plan_edits.specs.declared.EditPlan.the-variants as Rows
+use Rattle.plan_edits.specs.declared.EditPlan.the-variants as Edits
 use Rattle.emit_draft.specs.Texts.{bodyText}
 use Rattle.any_location_same.specs.Same.{samePosition}
 use Rattle.plan_location.specs.declared.PositionPlan.{PositionPlan}
-use Rattle.plan_location.specs.declared.PositionPlan.the-variants as EndPlans
+use Rattle.plan_location.specs.declared.PositionPlan.the-variants as PositionPlans
 use Rattle.plan_location.specs.declared.LocationPlan.{LocationPlan}
-use Rattle.plan_location.specs.declared.LocationPlan.the-variants as Places
-use Rattle.plan_location.specs.Plan.{placePlan, positionPlan, planLocation}
+use Rattle.plan_location.specs.declared.LocationPlan.the-variants as Locations
+use Rattle.plan_location.specs.Plan.{locationPlan, positionPlan, planLocation}
 use Rattle.plan_location.specs.Planned as L
 use Rattle.plan_location.specs.Planned.{muOf}
 use Rattle.plan_protein_edit.specs.Plan.{planProteinEdit}
@@ -65,8 +65,8 @@ flat x y z r = simp (append-nil, append-assoc) refl
 flat-edit : (x y z r : List ℕ) → (x ++ (y ++ (z ++ []))) ++ (ascii "(" ++ (r ++ ascii ")")) ≡ (x ++ (y ++ z)) ++ (ascii "(" ++ (r ++ ascii ")"))
 flat-edit x y z r = simp (append-nil, append-assoc) refl
 
-flat-place : (x y z r : List ℕ) → (ascii "(" ++ (x ++ (y ++ (z ++ ascii ")")))) ++ (r ++ []) ≡ (ascii "(" ++ ((x ++ (y ++ z)) ++ ascii ")")) ++ r
-flat-place x y z r = simp (append-nil, append-assoc) refl
+flat-location : (x y z r : List ℕ) → (ascii "(" ++ (x ++ (y ++ (z ++ ascii ")")))) ++ (r ++ []) ≡ (ascii "(" ++ ((x ++ (y ++ z)) ++ ascii ")")) ++ r
+flat-location x y z r = simp (append-nil, append-assoc) refl
 
 flat-both : (x y z r : List ℕ) → (ascii "(" ++ (x ++ (y ++ (z ++ [])))) ++ (r ++ ascii ")") ≡ ascii "(" ++ (((x ++ (y ++ z)) ++ r) ++ ascii ")")
 flat-both x y z r = simp (append-nil, append-assoc) refl
@@ -76,24 +76,24 @@ module _ (s : List ℕ) where
   abbrev bareText : LocationPieces → List ℕ
   bareText p = positionText s (p .start) ++ (byteText (p .joint) ++ positionText s (p .end))
 
-  body-text : (isLocated isCertain : Bool) (p : LocationPieces) (row : EditPieces) (i : EndsV Prot) (v : ProteinEditV) (a : Ends Prot) (b : Tree.ProteinEditTree) → bareText p ≡ printEnds Prot a → editText s row ≡ printProteinEdit b
-      → bodyText s (bodyOf isLocated isCertain p row) ≡ printProteinBody (joined (muOf isLocated i) (muOf isCertain v) a b)
+  body-text : (isLocated isCertain : Bool) (p : LocationPieces) (pieces : EditPieces) (i : EndsV Prot) (v : ProteinEditV) (a : Ends Prot) (b : Tree.ProteinEditTree) → bareText p ≡ printEnds Prot a → editText s pieces ≡ printProteinEdit b
+      → bodyText s (bodyOf isLocated isCertain p pieces) ≡ printProteinBody (joined (muOf isLocated i) (muOf isCertain v) a b)
   unfolding bodyText locationText
-  body-text true true p row i v a b e f = rw (← e, ← f) (flat (positionText s (p .start)) (byteText (p .joint)) (positionText s (p .end)) (editText s row))
-  body-text true false p row i v a b e f = rw (← e, ← f) (flat-edit (positionText s (p .start)) (byteText (p .joint)) (positionText s (p .end)) (editText s row))
-  body-text false true p row i v a b e f = rw (← e, ← f) (flat-place (positionText s (p .start)) (byteText (p .joint)) (positionText s (p .end)) (editText s row))
-  body-text false false p row i v a b e f = rw (← e, ← f) (flat-both (positionText s (p .start)) (byteText (p .joint)) (positionText s (p .end)) (editText s row))
+  body-text true true p pieces i v a b e f = rw (← e, ← f) (flat (positionText s (p .start)) (byteText (p .joint)) (positionText s (p .end)) (editText s pieces))
+  body-text true false p pieces i v a b e f = rw (← e, ← f) (flat-edit (positionText s (p .start)) (byteText (p .joint)) (positionText s (p .end)) (editText s pieces))
+  body-text false true p pieces i v a b e f = rw (← e, ← f) (flat-location (positionText s (p .start)) (byteText (p .joint)) (positionText s (p .end)) (editText s pieces))
+  body-text false false p pieces i v a b e f = rw (← e, ← f) (flat-both (positionText s (p .start)) (byteText (p .joint)) (positionText s (p .end)) (editText s pieces))
 
   -- ---- the ends of a location, without its brackets
   abbrev planBare : LocationPlan → Option (List ℕ)
-  planBare Places.NoText = none
-  planBare (Places.Text p) = some (bareText p)
+  planBare Locations.NoText = none
+  planBare (Locations.Text p) = some (bareText p)
 
-  bare-place : (isCertain : Bool) (x : PositionPlan) (m : OneByte) (y : PositionPlan) → planBare (placePlan isCertain x m y) ≡ L.planText s (placePlan true x m y)
+  bare-location : (isCertain : Bool) (x : PositionPlan) (m : OneByte) (y : PositionPlan) → planBare (locationPlan isCertain x m y) ≡ L.planText s (locationPlan true x m y)
   unfolding locationText
-  bare-place isCertain EndPlans.NoText m y = refl
-  bare-place isCertain (EndPlans.Text e) m EndPlans.NoText = refl
-  bare-place isCertain (EndPlans.Text e) m (EndPlans.Text f) = rw (append-nil (positionText s f))
+  bare-location isCertain PositionPlans.NoText m y = refl
+  bare-location isCertain (PositionPlans.Text e) m PositionPlans.NoText = refl
+  bare-location isCertain (PositionPlans.Text e) m (PositionPlans.Text f) = rw (append-nil (positionText s f))
 
   abbrev surely : Location → Location
   surely l = record { certain = true; start = l .start; end = l .end }
@@ -103,8 +103,8 @@ module _ (s : List ℕ) where
   bare-certain l = go (samePosition s Prot (l .start) (l .end)) refl
     where
       go : (t : Bool) → samePosition s Prot (l .start) (l .end) ≡ t → planBare (planLocation s Prot l) ≡ L.planText s (planLocation s Prot (surely l))
-      go true e = rw (e, planLocation) (bare-place (l .certain) (positionPlan s Prot (l .start)) _ _)
-      go false e = rw (e, planLocation) (bare-place (l .certain) (positionPlan s Prot (l .start)) _ (positionPlan s Prot (l .end)))
+      go true e = rw (e, planLocation) (bare-location (l .certain) (positionPlan s Prot (l .start)) _ _)
+      go false e = rw (e, planLocation) (bare-location (l .certain) (positionPlan s Prot (l .start)) _ (positionPlan s Prot (l .end)))
 
   abbrev residueAt : Position → ProtPosV
   residueAt p = protPosV (part s (p .aa)) (p .number)
@@ -121,16 +121,16 @@ module _ (s : List ℕ) where
 
   together-text : (isLocated isCertain : Bool) (i : EndsV Prot) (v : ProteinEditV) (x : LocationPlan) (y : EditPlan) (o : Option (Ends Prot)) (u : Option Tree.ProteinEditTree) → planBare x ≡ mapO (printEnds Prot) o → R.planText s y ≡ mapO printProteinEdit u
       → planText s (togetherPlan isLocated isCertain x y) ≡ mapO printProteinBody (bothO (joined (muOf isLocated i) (muOf isCertain v)) o u)
-  together-text l c i v Places.NoText y none u e f = refl
-  together-text l c i v Places.NoText y (some a) u e f = absurd (none-some e)
-  together-text l c i v (Places.Text p) y none u e f = absurd (none-some (sym e))
-  together-text l c i v (Places.Text p) Rows.NoText (some a) none e f = refl
-  together-text l c i v (Places.Text p) Rows.NoText (some a) (some b) e f = absurd (none-some f)
-  together-text l c i v (Places.Text p) (Rows.Text row) (some a) none e f = absurd (none-some (sym f))
-  together-text l c i v (Places.Text p) (Rows.Text row) (some a) (some b) e f =
+  together-text l c i v Locations.NoText y none u e f = refl
+  together-text l c i v Locations.NoText y (some a) u e f = absurd (none-some e)
+  together-text l c i v (Locations.Text p) y none u e f = absurd (none-some (sym e))
+  together-text l c i v (Locations.Text p) Edits.NoText (some a) none e f = refl
+  together-text l c i v (Locations.Text p) Edits.NoText (some a) (some b) e f = absurd (none-some f)
+  together-text l c i v (Locations.Text p) (Edits.Text pieces) (some a) none e f = absurd (none-some (sym f))
+  together-text l c i v (Locations.Text p) (Edits.Text pieces) (some a) (some b) e f =
       let g : bareText p ≡ printEnds Prot a = cc in
-      let h : editText s row ≡ printProteinEdit b = cc in
-      ap some (body-text l c p row i v a b g h)
+      let h : editText s pieces ≡ printProteinEdit b = cc in
+      ap some (body-text l c p pieces i v a b g h)
 
   -- ---- the Met-1 `?` record
   barred-is : (isLocated isCertain : Bool) (i : EndsV Prot) (v : ProteinEditV) → barred (muOf isLocated i) (muOf isCertain v) ≡ isAlike isLocated isCertain && isMet1 i v

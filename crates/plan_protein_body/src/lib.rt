@@ -21,7 +21,7 @@ ghost use mathlib.Core.Bool.{_||_, not};
 ghost use Rattle.texts.specs.Words.{same};
 ghost use Rattle.alphabet.specs.Cells.{IsTable};
 ghost use Rattle.grammar.specs.Spans.{part};
-ghost use Rattle.plan_protein_body.specs.Plan.{isMetOne, isUnknownEdit, isAlike, isBarred, placeAt, met01Place, bodyOf, togetherPlan, planOrdinary, planMuProtein, wordBody, planProteinBody};
+ghost use Rattle.plan_protein_body.specs.Plan.{isMetOne, isUnknownEdit, isAlike, isBarred, loneLocation, met01Place, bodyOf, togetherPlan, planOrdinary, planMuProtein, wordBody, planProteinBody};
 
 // ---- the Met-1 `?` record: its composed text would be `Met1?` or `(Met1?)`, which read as another
 
@@ -86,8 +86,8 @@ fn is_barred(source: &[u8], l: Location, certain: bool, e: ProteinEdit) -> bool
 
 // ---- places
 
-fn place_at(start: PositionPieces) -> LocationPieces
-    ensures { λ r. ⌜ r ≡ placeAt start ⌝ }
+fn lone_location(start: PositionPieces) -> LocationPieces
+    ensures { λ r. ⌜ r ≡ loneLocation start ⌝ }
 {
     LocationPieces {
         opening: OneByte::Nothing,
@@ -102,7 +102,7 @@ fn place_at(start: PositionPieces) -> LocationPieces
 fn met01(aa: Span) -> LocationPieces
     ensures { λ r. ⌜ r ≡ met01Place aa ⌝ }
 {
-    place_at(PositionPieces {
+    lone_location(PositionPieces {
         residue: aa,
         mark: OneByte::Byte(b'0'),
         number: Amount::Count(1),
@@ -123,14 +123,14 @@ fn or_not(a: bool, b: bool) -> bool
 }
 
 // In one pair of brackets where both are uncertain.
-fn body_of(located: bool, certain: bool, place: LocationPieces, row: EditPieces) -> BodyPieces
-    ensures { λ r. ⌜ r ≡ bodyOf located certain place row ⌝ }
+fn body_of(located: bool, certain: bool, location: LocationPieces, pieces: EditPieces) -> BodyPieces
+    ensures { λ r. ⌜ r ≡ bodyOf located certain location pieces ⌝ }
 {
-    let start = place.start;
-    let joint = place.joint;
-    let end = place.end;
+    let start = location.start;
+    let joint = location.joint;
+    let end = location.end;
     BodyPieces {
-        place: LocationPieces {
+        location: LocationPieces {
             opening: plan_location::bracket(located, b'('),
             start,
             joint,
@@ -138,18 +138,18 @@ fn body_of(located: bool, certain: bool, place: LocationPieces, row: EditPieces)
             closing: plan_location::bracket(or_not(located, certain), b')'),
         },
         opening: plan_location::bracket(or_not(certain, located), b'('),
-        row,
+        edit: pieces,
         closing: plan_location::bracket(certain, b')'),
     }
 }
 
-fn together(located: bool, certain: bool, place: LocationPlan, row: EditPlan) -> BodyPlan
-    ensures { λ r. ⌜ r ≡ togetherPlan located certain place row ⌝ }
+fn together(located: bool, certain: bool, location: LocationPlan, pieces: EditPlan) -> BodyPlan
+    ensures { λ r. ⌜ r ≡ togetherPlan located certain location pieces ⌝ }
 {
-    let LocationPlan::Text(p) = place else {
+    let LocationPlan::Text(p) = location else {
         return BodyPlan::NoText;
     };
-    let EditPlan::Text(e) = row else {
+    let EditPlan::Text(e) = pieces else {
         return BodyPlan::NoText;
     };
     BodyPlan::Text(body_of(located, certain, p, e))
@@ -199,9 +199,9 @@ fn word_body(word: Word) -> BodyPlan
     ensures { λ r. ⌜ r ≡ wordBody word ⌝ }
 {
     BodyPlan::Text(BodyPieces {
-        place: place_at(plan_location::NO_END),
+        location: lone_location(plan_location::NO_END),
         opening: OneByte::Nothing,
-        row: plan_edits::word_alone(word),
+        edit: plan_edits::word_alone(word),
         closing: OneByte::Nothing,
     })
 }

@@ -1,4 +1,4 @@
--- The row to be written for a protein edit: the cases of its canonical tree, with spans for residues and terminals.
+-- The pieces to be written for a protein edit: the cases of its canonical tree, with spans for residues and terminals.
 use Prim.Native.Nat.{ℕ}
 use Prim.Native.Char.{code}
 use mathlib.Core.List.{List}
@@ -26,7 +26,7 @@ use Rattle.plan_edits.specs.declared.EditPlan.{EditPlan}
 use Rattle.plan_edits.specs.declared.EditPlan.the-variants.{NoText, Text}
 use Rattle.plan_protein_tests.specs.Tests.{isNegated, isTerminal, isOptionalPart, isSubst}
 
--- ---- what stands in the row
+-- ---- what the pieces are
 abbrev pub spanOf : Part → Span
 spanOf Pa.Absent = noSpan
 spanOf (Pa.Present p) = p
@@ -43,8 +43,8 @@ jointOf Unknown = Question
 jointOf (Known z) = Empty
 
 -- an optional residue, a word, an optional terminal or residue, a sign, a length
-abbrev pub endRow : Part → Word → Part → OneByte → UncertainLengthChange → EditPieces
-endRow r word t sign n = record { first = spanOf r; word = word; second = spanOf t; sign = sign; amount = amountOf n; joint = jointOf n; last = noSpan }
+abbrev pub endPieces : Part → Word → Part → OneByte → UncertainLengthChange → EditPieces
+endPieces r word t sign n = record { first = spanOf r; word = word; second = spanOf t; sign = sign; amount = amountOf n; joint = jointOf n; last = noSpan }
 
 -- ---- tests
 abbrev pub isLength : UncertainLengthChange → Bool
@@ -74,14 +74,14 @@ module _ (s : List ℕ) where
 
   -- ---- plans
   unfoldable pub planFs : Part → Part → UncertainLengthChange → EditPlan
-  planFs r t n = cond (isOptionalPart s r) (editIf (isStop t n) (endRow r Fs t Nothing n)) NoText
+  planFs r t n = cond (isOptionalPart s r) (editIf (isStop t n) (endPieces r Fs t Nothing n)) NoText
 
   -- `extTer0`, and `-` where no terminal does
   unfoldable pub planExt : Part → Part → UncertainLengthChange → EditPlan
   planExt r t n =
       cond (isOptionalPart s r)
-      (cond (isStop t n) (Text (endRow r Ext t Nothing n))
-      (editIf (isEarlier t n) (endRow r Ext t (Byte (code "-")) n)))
+      (cond (isStop t n) (Text (endPieces r Ext t Nothing n))
+      (editIf (isEarlier t n) (endPieces r Ext t (Byte (code "-")) n)))
       NoText
 
   abbrev pub planSubst : Span → EditPlan

@@ -1,4 +1,4 @@
--- The text of a planned row is that of the edit's canonical tree.
+-- The text of planned pieces is that of the edit's canonical tree.
 use Prim.Native.Nat.{ℕ}
 use Prim.Native.Char.{code}
 use mathlib.Core.Path.{_≡_, refl, sym, ap, _∙_}
@@ -36,10 +36,10 @@ use Rattle.emit_edit.specs.Texts.{editText}
 use Rattle.emit_piece.specs.PartLengths.{no-part}
 use Rattle.plan_edits.specs.EditPlans.{planText, editIf, lettersEdit, isUnsigned}
 use Rattle.plan_edits.specs.declared.EditPlan.the-variants.{Text}
-use Rattle.plan_edits.specs.PlanTexts.{letters-text, word-text, word-alone, either, row-text, edit-if, unsigned-digits}
+use Rattle.plan_edits.specs.PlanTexts.{letters-text, word-text, word-alone, either, pieces-text, edit-if, unsigned-digits}
 use Rattle.plan_protein_tests.specs.Tests.{isNegated, isTerminal, isOptionalPart, isSubst}
 use Rattle.plan_protein_tests.specs.Found.{Found, Found.yes, Found.no, found-if, found-map, terminal-found, itself, negated-found, subst-found}
-use Rattle.plan_protein_edit.specs.Plan.{spanOf, amountOf, jointOf, endRow, isLength, isStop, isEarlier, planFs, planExt, planSubst, planProteinEdit}
+use Rattle.plan_protein_edit.specs.Plan.{spanOf, amountOf, jointOf, endPieces, isLength, isStop, isEarlier, planFs, planExt, planSubst, planProteinEdit}
 
 map-next : {A B : Type 0} (f : A → B) (o u : Option A) → mapO f (orNext o u) ≡ orNext (mapO f o) (mapO f u)
 map-next f none u = refl
@@ -110,26 +110,26 @@ module _ (s : List ℕ) where
       go true e = rw e digits
       go false e = rw e no
 
-  -- ---- rows and plans
+  -- ---- pieces and plans
   end-text : (r : Part) (word : Word) (t : Part) (sign : OneByte) (n : UncertainLengthChange)
-      → editText s (endRow r word t sign n) ≡ printOptional [] (optionalPart s r) ++ (wordText word ++ (part s (spanOf t) ++ (byteText sign ++ lengthText n)))
+      → editText s (endPieces r word t sign n) ≡ printOptional [] (optionalPart s r) ++ (wordText word ++ (part s (spanOf t) ++ (byteText sign ++ lengthText n)))
   unfolding editText
   end-text r word t sign n = rw (no-part s, append-nil (wordText (jointOf n)), optional-text r)
 
   module _ {A : Type 0} (print : A → List ℕ) where
-    found-row : {text : List ℕ} {b : Bool} {o : Option A} (row : EditPieces) → editText s row ≡ text → Found print text b o → planText s (editIf b row) ≡ mapO print o
-    found-row row e (yes a f) = ap some (e ∙ sym f)
-    found-row row e no = refl
+    found-pieces : {text : List ℕ} {b : Bool} {o : Option A} (pieces : EditPieces) → editText s pieces ≡ text → Found print text b o → planText s (editIf b pieces) ≡ mapO print o
+    found-pieces pieces e (yes a f) = ap some (e ∙ sym f)
+    found-pieces pieces e no = refl
 
-    next-row : {x y : List ℕ} {b c : Bool} {o u : Option A} (first second : EditPieces) → editText s first ≡ x → editText s second ≡ y → Found print x b o → Found print y c u → planText s (cond b (Text first) (editIf c second)) ≡ mapO print (orNext o u)
-    next-row first second e f (yes a g) h = ap some (e ∙ sym g)
-    next-row first second e f no h = found-row second f h
+    next-pieces : {x y : List ℕ} {b c : Bool} {o u : Option A} (first second : EditPieces) → editText s first ≡ x → editText s second ≡ y → Found print x b o → Found print y c u → planText s (cond b (Text first) (editIf c second)) ≡ mapO print (orNext o u)
+    next-pieces first second e f (yes a g) h = ap some (e ∙ sym g)
+    next-pieces first second e f no h = found-pieces second f h
 
   fs-planned : (r t : Part) (n : UncertainLengthChange) → planText s (planFs s r t n) ≡ mapO printProteinEdit (canonProteinEdit (proteinEditContent s (Pr.Fs r t n)))
   unfolding planFs
   fs-planned r t n =
       either s printProteinEdit (isOptionalPart s r) _ _ _ _
-      (λ h. found-row printProteinEdit (endRow r Fs t Nothing n) (end-text r Fs t Nothing n)
+      (λ h. found-pieces printProteinEdit (endPieces r Fs t Nothing n) (end-text r Fs t Nothing n)
       (found-map printFsEnd printProteinEdit (fs (optionalPart s r)) (λ e. printOptional [] (optionalPart s r) ++ (ascii "fs" ++ e)) (λ e. refl) (fs-found t n)))
       (λ h. refl)
 
@@ -138,7 +138,7 @@ module _ (s : List ℕ) where
   ext-planned r t n =
       rw (ext-end (optionalPart s t) n, map-next (ext (optionalPart s r)) (laterEnd (optionalPart s t) n) (canonEarlier (optionalPart s t) n))
       (either s printProteinEdit (isOptionalPart s r) _ _ _ _
-      (λ h. next-row printProteinEdit (endRow r Ext t Nothing n) (endRow r Ext t (Byte (code "-")) n) (end-text r Ext t Nothing n) (end-text r Ext t (Byte (code "-")) n) (behind (later-found t n)) (behind (earlier-found t n)))
+      (λ h. next-pieces printProteinEdit (endPieces r Ext t Nothing n) (endPieces r Ext t (Byte (code "-")) n) (end-text r Ext t Nothing n) (end-text r Ext t (Byte (code "-")) n) (behind (later-found t n)) (behind (earlier-found t n)))
       (λ h. refl))
     where
       behind : {text : List ℕ} {b : Bool} {o : Option ExtEnd} → Found printExtEnd text b o → Found printProteinEdit (printOptional [] (optionalPart s r) ++ (ascii "ext" ++ text)) b (mapO (ext (optionalPart s r)) o)
@@ -147,7 +147,7 @@ module _ (s : List ℕ) where
   subst-planned : (p : Span) → planText s (planSubst s p) ≡ mapO printProteinEdit (canonProteinEdit (substV (part s p)))
   unfolding isSubst
   subst-planned p =
-      found-row printProteinEdit (lettersEdit p Empty noSpan) (letters-text s p Empty noSpan ∙ rw (no-part s, append-nil (part s p))) (subst-found (part s p))
+      found-pieces printProteinEdit (lettersEdit p Empty noSpan) (letters-text s p Empty noSpan ∙ rw (no-part s, append-nil (part s p))) (subst-found (part s p))
 
   pub planned : (e : ProteinEdit) → planText s (planProteinEdit s e) ≡ mapO printProteinEdit (canonProteinEdit (proteinEditContent s e))
   planned (Pr.Fs r t n) = fs-planned r t n
@@ -155,6 +155,6 @@ module _ (s : List ℕ) where
   planned (Pr.Subst p) = subst-planned p
   planned (Pr.DelIns p) = edit-if s printProteinEdit (isResidues (part s p)) _ (delIns (part s p)) (word-text s DelIns p)
   planned (Pr.Ins p) = edit-if s printProteinEdit (isResidues (part s p)) _ (ins (part s p)) (word-text s Ins p)
-  planned Pr.Del = row-text s printProteinEdit _ del (word-alone s Del)
-  planned Pr.Dup = row-text s printProteinEdit _ dup (word-alone s Dup)
-  planned Pr.Ident = row-text s printProteinEdit _ equal (word-alone s Equal)
+  planned Pr.Del = pieces-text s printProteinEdit _ del (word-alone s Del)
+  planned Pr.Dup = pieces-text s printProteinEdit _ dup (word-alone s Dup)
+  planned Pr.Ident = pieces-text s printProteinEdit _ equal (word-alone s Equal)

@@ -1,4 +1,4 @@
-// Which text is to be written for a protein edit: a row of pieces, or none.
+// Which text is to be written for a protein edit: its pieces, or none.
 use emit_edit::EditPieces;
 use emit_piece::Amount;
 use emit_piece::OneByte;
@@ -10,9 +10,9 @@ use record::Span;
 use record::UncertainLengthChange;
 ghost use mathlib.Core.Path.{_≡_};
 ghost use Rattle.alphabet.specs.Cells.{IsTable};
-ghost use Rattle.plan_protein_edit.specs.Plan.{spanOf, amountOf, jointOf, endRow, isLength, isNone, isTerminalWith, isStop, isEarlier, planFs, planExt, planSubst, planResidues, planProteinEdit};
+ghost use Rattle.plan_protein_edit.specs.Plan.{spanOf, amountOf, jointOf, endPieces, isLength, isNone, isTerminalWith, isStop, isEarlier, planFs, planExt, planSubst, planResidues, planProteinEdit};
 
-// ---- what stands in the row
+// ---- what the pieces are
 
 fn span_of(p: Part) -> Span
     ensures { λ r. ⌜ r ≡ spanOf p ⌝ }
@@ -44,14 +44,14 @@ fn joint_of(n: UncertainLengthChange) -> Word
     }
 }
 
-fn end_row(
+fn end_pieces(
     residue: Part,
     word: Word,
     end: Part,
     sign: OneByte,
     n: UncertainLengthChange,
 ) -> EditPieces
-    ensures { λ r. ⌜ r ≡ endRow residue word end sign n ⌝ }
+    ensures { λ r. ⌜ r ≡ endPieces residue word end sign n ⌝ }
 {
     EditPieces {
         first: span_of(residue),
@@ -139,7 +139,7 @@ fn plan_fs(
     }
     plan_edits::edit_if(
         is_stop(source, end, n),
-        end_row(residue, Word::Fs, end, OneByte::Nothing, n),
+        end_pieces(residue, Word::Fs, end, OneByte::Nothing, n),
     )
 }
 
@@ -157,11 +157,11 @@ fn plan_ext(
         return EditPlan::NoText;
     }
     if is_stop(source, end, n) {
-        return EditPlan::Text(end_row(residue, Word::Ext, end, OneByte::Nothing, n));
+        return EditPlan::Text(end_pieces(residue, Word::Ext, end, OneByte::Nothing, n));
     }
     plan_edits::edit_if(
         is_earlier(table, source, end, n),
-        end_row(residue, Word::Ext, end, OneByte::Byte(b'-'), n),
+        end_pieces(residue, Word::Ext, end, OneByte::Byte(b'-'), n),
     )
 }
 
@@ -185,7 +185,7 @@ fn plan_residues(table: &[u8; 256], source: &[u8], word: Word, p: Span) -> EditP
     )
 }
 
-// The row of the shortest text of an edit; none where no text reads as it.
+// The pieces of the shortest text of an edit; none where no text reads as it.
 pub fn plan_protein_edit(table: &[u8; 256], source: &[u8], e: ProteinEdit) -> EditPlan
     requires { ⌜ IsTable (now table) ⌝ }
     ensures { λ r. ⌜ r ≡ planProteinEdit (now (source .entry)) e ⌝ }

@@ -17,7 +17,8 @@ use Rattle.promise.specs.Outcome.{writeOutcome, limit}
 use Rattle.promise.specs.Writing.{Sound, Unsound, Writes}
 use Rattle.lang_canon.specs.Wording.{Wanted}
 use Rattle.emit_draft.specs.declared.Draft.{Draft}
-use Rattle.emit_draft.specs.Texts.{draftText, answered, left}
+use Rattle.emit_draft.specs.Texts.{draftText}
+use Rattle.emit_text.specs.Answered.{answered, left}
 use Rattle.plan_text.specs.declared.TextPlan.the-variants as Plans
 use Rattle.plan_text.specs.Plan.{textPlan}
 use Rattle.plan_text.specs.Planned.{sound-plan, unsound-plan}

@@ -22,7 +22,7 @@ fn write_wanted(source: &[u8], v: HgvsVariant, output: &mut [u8], wording: Wordi
     let TextPlan::Text(d) = plan_text::plan_text(source, wording, v) else {
         return WriteAnswer::Refused(Refusal::NoText);
     };
-    emit_draft::write_draft(source, d, output)
+    emit_text::write_draft(source, d, output)
 }
 
 // The shortest text, first in byte order among equals, at the front of the output; or the refusal's number, and nothing written.

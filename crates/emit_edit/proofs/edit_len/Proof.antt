@@ -1,5 +1,5 @@
 use native.Mathlib.Omega.{arith}
-use Rattle.emit_edit.specs.EditLengths.{row-length}
+use Rattle.emit_edit.specs.EditLengths.{pieces-length}
 use borrow.Author.Needs.{needs}
 use Rattle.emit_edit.proofs.edit_len.Statement.{statement}
 use Rattle.emit_edit.proofs.edit_len.Tie as tie
@@ -44,7 +44,7 @@ add-result-6 : tie.Need-add-result-6
 add-result-6 c = search needs
 
 returns : tie.Need-returns
-returns c = let a = c .before .before .before .before .before .before .before .before .before .before .before .args in (omega (arith, row-length (a .source .now) (a .row)), omega arith)
+returns c = let a = c .before .before .before .before .before .before .before .before .before .before .before .args in (omega (arith, pieces-length (a .source .now) (a .pieces)), omega arith)
 
 pub edit-len-spec : {M : Type 1} → statement M
 edit-len-spec =

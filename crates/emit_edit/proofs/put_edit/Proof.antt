@@ -2,7 +2,7 @@
 use native.Mathlib.Omega.{arith}
 use borrow.Author.Needs.{needs}
 use Rattle.emit_edit.specs.Texts.{editText}
-use Rattle.emit_edit.specs.EditLengths.{row-length}
+use Rattle.emit_edit.specs.EditLengths.{pieces-length}
 use Rattle.lent.specs.Put.{then}
 use Rattle.emit_edit.proofs.put_edit.Statement.{statement}
 use Rattle.emit_edit.proofs.put_edit.Tie as tie
@@ -30,25 +30,25 @@ abbrev start-7 : tie.After-put-part-arg3 → tie.Start
 start-7 c = start-6 (c .before .before .before .before)
 
 put-part-requires : tie.Need-put-part-requires
-put-part-requires c κs = let a = start-1 c .args in omega (arith, row-length (a .source .now) (a .row))
+put-part-requires c κs = let a = start-1 c .args in omega (arith, pieces-length (a .source .now) (a .pieces))
 
 put-word-requires : tie.Need-put-word-requires
-put-word-requires c κs = let a = start-2 c .args in omega (arith, row-length (a .source .now) (a .row))
+put-word-requires c κs = let a = start-2 c .args in omega (arith, pieces-length (a .source .now) (a .pieces))
 
 put-part-requires-2 : tie.Need-put-part-requires-2
-put-part-requires-2 c κs = let a = start-3 c .args in omega (arith, row-length (a .source .now) (a .row))
+put-part-requires-2 c κs = let a = start-3 c .args in omega (arith, pieces-length (a .source .now) (a .pieces))
 
 put-byte-requires : tie.Need-put-byte-requires
-put-byte-requires c κs = let a = start-4 c .args in omega (arith, row-length (a .source .now) (a .row))
+put-byte-requires c κs = let a = start-4 c .args in omega (arith, pieces-length (a .source .now) (a .pieces))
 
 put-amount-requires : tie.Need-put-amount-requires
-put-amount-requires c κs = let a = start-5 c .args in omega (arith, row-length (a .source .now) (a .row))
+put-amount-requires c κs = let a = start-5 c .args in omega (arith, pieces-length (a .source .now) (a .pieces))
 
 put-word-requires-2 : tie.Need-put-word-requires-2
-put-word-requires-2 c κs = let a = start-6 c .args in omega (arith, row-length (a .source .now) (a .row))
+put-word-requires-2 c κs = let a = start-6 c .args in omega (arith, pieces-length (a .source .now) (a .pieces))
 
 put-part-requires-3 : tie.Need-put-part-requires-3
-put-part-requires-3 c κs = let a = start-7 c .args in omega (arith, row-length (a .source .now) (a .row))
+put-part-requires-3 c κs = let a = start-7 c .args in omega (arith, pieces-length (a .source .now) (a .pieces))
 
 same-length : tie.Need-same-length
 same-length c = search needs
@@ -65,7 +65,7 @@ returns c =
     let p1 = p2 .before .before .before .before in
     let s = start-1 (p1 .before) in
     let room = s .pre in
-    let n = row-length (s .args .source .now) (s .args .row) in
+    let n = pieces-length (s .args .source .now) (s .args .pieces) in
     then _ _ _ _ (omega arith) (p1 .put-part .ensures)
     (then _ _ _ _ (omega arith) (p2 .put-word .ensures)
     (then _ _ _ _ (omega arith) (p3 .put-part2 .ensures)

@@ -2,8 +2,8 @@ use borrow.Author.Needs.{needs}
 use Rattle.plan_na_body.proofs.joined.Statement.{statement}
 use Rattle.plan_na_body.proofs.joined.Tie as tie
 
-enum-known-place : tie.Need-enum-known-place
-enum-known-place c = search needs
+enum-known-location : tie.Need-enum-known-location
+enum-known-location c = search needs
 
 enum-told : tie.Need-enum-told
 enum-told c = search needs
@@ -11,14 +11,14 @@ enum-told c = search needs
 returns : tie.Need-returns
 returns c = search needs
 
-enum-known-row : tie.Need-enum-known-row
-enum-known-row c = search needs
+enum-known-pieces : tie.Need-enum-known-pieces
+enum-known-pieces c = search needs
 
 enum-told-2 : tie.Need-enum-told-2
 enum-told-2 c = search needs
 
 returns-2 : tie.Need-returns-2
-returns-2 c = rw (c .before .before .before .place .given .1, c .enum-told2 .given .1)
+returns-2 c = rw (c .before .before .before .location .given .1, c .enum-told2 .given .1)
 
 bracket-requires : tie.Need-bracket-requires
 bracket-requires c κs = search needs
@@ -27,16 +27,16 @@ bracket-requires-2 : tie.Need-bracket-requires-2
 bracket-requires-2 c κs = search needs
 
 returns-3 : tie.Need-returns-3
-returns-3 c = rw (c .before .before .before .before .before .before .place .given .1, c .before .before .before .row .given .1, c .before .bracket .ensures, c .bracket2 .ensures)
+returns-3 c = rw (c .before .before .before .before .before .before .location .given .1, c .before .before .before .pieces .given .1, c .before .bracket .ensures, c .bracket2 .ensures)
 
 pub joined-spec : {M : Type 1} → statement M
 joined-spec =
     tie.close
     (tie.spec
-    enum-known-place
+    enum-known-location
     enum-told
     returns
-    enum-known-row
+    enum-known-pieces
     enum-told-2
     returns-2
     bracket-requires

@@ -8,8 +8,8 @@ plan-location-requires c κs = search needs
 edit-of-requires : tie.Need-edit-of-requires
 edit-of-requires c κs = search needs
 
-na-row-requires : tie.Need-na-row-requires
-na-row-requires c κs = search needs
+na-pieces-requires : tie.Need-na-pieces-requires
+na-pieces-requires c κs = search needs
 
 is-certain-requires : tie.Need-is-certain-requires
 is-certain-requires c κs = search needs
@@ -20,7 +20,7 @@ joined-requires c κs = search needs
 returns : tie.Need-returns
 returns c =
     let n = c .before .before in
-    rw (c .joined .ensures, c .before .is-certain .ensures, n .na-row .ensures, n .before .edit-of .ensures, n .before .before .plan-location .ensures)
+    rw (c .joined .ensures, c .before .is-certain .ensures, n .na-pieces .ensures, n .before .edit-of .ensures, n .before .before .plan-location .ensures)
 
 pub plan-na-body-spec : {M : Type 1} → statement M
 plan-na-body-spec =
@@ -28,7 +28,7 @@ plan-na-body-spec =
     (tie.spec
     plan-location-requires
     edit-of-requires
-    na-row-requires
+    na-pieces-requires
     is-certain-requires
     joined-requires
     returns)

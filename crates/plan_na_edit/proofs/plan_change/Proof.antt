@@ -32,8 +32,8 @@ returns-2 c =
 is-some-requires : tie.Need-is-some-requires
 is-some-requires c κs = search needs
 
-del-ins-row-requires : tie.Need-del-ins-row-requires
-del-ins-row-requires c κs = search needs
+del-ins-pieces-requires : tie.Need-del-ins-pieces-requires
+del-ins-pieces-requires c κs = search needs
 
 edit-if-requires : tie.Need-edit-if-requires
 edit-if-requires c κs = search needs
@@ -46,7 +46,7 @@ returns-3 c =
     let t = i .before in
     let e = t .before .before in
     rw (sym (e .before .same-parts .ensures) ∙ e .if1 .left, sym (t .before .one-each-parts .ensures) ∙ t .if2 .left)
-    (c .edit-if .ensures ∙ rw (i .is-some .ensures, d .del-ins-row .ensures))
+    (c .edit-if .ensures ∙ rw (i .is-some .ensures, d .del-ins-pieces .ensures))
 
 pub plan-change-spec : {M : Type 1} → statement M
 plan-change-spec =
@@ -59,6 +59,6 @@ plan-change-spec =
     letters-edit-requires-2
     returns-2
     is-some-requires
-    del-ins-row-requires
+    del-ins-pieces-requires
     edit-if-requires
     returns-3)

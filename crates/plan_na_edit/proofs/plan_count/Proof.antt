@@ -10,8 +10,8 @@ is-unsigned-requires c κs = search needs
 magnitude-requires : tie.Need-magnitude-requires
 magnitude-requires c κs = search needs
 
-count-row-requires : tie.Need-count-row-requires
-count-row-requires c κs = search needs
+count-pieces-requires : tie.Need-count-pieces-requires
+count-pieces-requires c κs = search needs
 
 edit-if-requires : tie.Need-edit-if-requires
 edit-if-requires c κs = search needs
@@ -21,7 +21,7 @@ returns c =
     let k = c .before in
     let m = k .before in
     let u = m .before in
-    c .edit-if .ensures ∙ rw (k .count-row .ensures, m .magnitude .ensures, u .is-unsigned .ensures, toZ-ofZ (u .before .fits .n))
+    c .edit-if .ensures ∙ rw (k .count-pieces .ensures, m .magnitude .ensures, u .is-unsigned .ensures, toZ-ofZ (u .before .fits .n))
 
 pub plan-count-spec : {M : Type 1} → statement M
 plan-count-spec =
@@ -29,6 +29,6 @@ plan-count-spec =
     (tie.spec
     is-unsigned-requires
     magnitude-requires
-    count-row-requires
+    count-pieces-requires
     edit-if-requires
     returns)

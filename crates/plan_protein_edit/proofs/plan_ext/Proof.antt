@@ -15,21 +15,21 @@ returns c = rw (sym (c .before .is-optional .ensures) ∙ not-true _ (c .if1 .ta
 is-stop-requires : tie.Need-is-stop-requires
 is-stop-requires c κs = search needs
 
-end-row-requires : tie.Need-end-row-requires
-end-row-requires c κs = search needs
+end-pieces-requires : tie.Need-end-pieces-requires
+end-pieces-requires c κs = search needs
 
 returns-2 : tie.Need-returns-2
 unfolding planExt
 returns-2 c =
     let t = c .before in
     let e = t .before .before in
-    rw (sym (e .before .is-optional .ensures) ∙ not-false _ (e .if1 .left), sym (t .before .is-stop .ensures) ∙ t .if2 .taken, c .end-row .ensures)
+    rw (sym (e .before .is-optional .ensures) ∙ not-false _ (e .if1 .left), sym (t .before .is-stop .ensures) ∙ t .if2 .taken, c .end-pieces .ensures)
 
 is-earlier-requires : tie.Need-is-earlier-requires
 is-earlier-requires c κs = search needs
 
-end-row-requires-2 : tie.Need-end-row-requires-2
-end-row-requires-2 c κs = search needs
+end-pieces-requires-2 : tie.Need-end-pieces-requires-2
+end-pieces-requires-2 c κs = search needs
 
 edit-if-requires : tie.Need-edit-if-requires
 edit-if-requires c κs = search needs
@@ -41,7 +41,7 @@ returns-3 c =
     let f = x .before .before in
     let e = f .before .before in
     rw (sym (e .before .is-optional .ensures) ∙ not-false _ (e .if1 .left), sym (f .before .is-stop .ensures) ∙ f .if2 .left)
-    (c .edit-if .ensures ∙ rw (x .before .is-earlier .ensures, x .end-row2 .ensures))
+    (c .edit-if .ensures ∙ rw (x .before .is-earlier .ensures, x .end-pieces2 .ensures))
 
 pub plan-ext-spec : {M : Type 1} → statement M
 plan-ext-spec =
@@ -50,9 +50,9 @@ plan-ext-spec =
     is-optional-requires
     returns
     is-stop-requires
-    end-row-requires
+    end-pieces-requires
     returns-2
     is-earlier-requires
-    end-row-requires-2
+    end-pieces-requires-2
     edit-if-requires
     returns-3)

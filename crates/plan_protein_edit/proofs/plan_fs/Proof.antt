@@ -15,8 +15,8 @@ returns c = rw (sym (c .before .is-optional .ensures) ∙ not-true _ (c .if1 .ta
 is-stop-requires : tie.Need-is-stop-requires
 is-stop-requires c κs = search needs
 
-end-row-requires : tie.Need-end-row-requires
-end-row-requires c κs = search needs
+end-pieces-requires : tie.Need-end-pieces-requires
+end-pieces-requires c κs = search needs
 
 edit-if-requires : tie.Need-edit-if-requires
 edit-if-requires c κs = search needs
@@ -27,7 +27,7 @@ returns-2 c =
     let x = c .before in
     let e = x .before .before in
     rw (sym (e .before .is-optional .ensures) ∙ not-false _ (e .if1 .left))
-    (c .edit-if .ensures ∙ rw (x .before .is-stop .ensures, x .end-row .ensures))
+    (c .edit-if .ensures ∙ rw (x .before .is-stop .ensures, x .end-pieces .ensures))
 
 pub plan-fs-spec : {M : Type 1} → statement M
 plan-fs-spec =
@@ -36,6 +36,6 @@ plan-fs-spec =
     is-optional-requires
     returns
     is-stop-requires
-    end-row-requires
+    end-pieces-requires
     edit-if-requires
     returns-2)
