@@ -1,6 +1,5 @@
 // The body of a record, as a body of any nucleotide kind or of p.
 use any_location::Location;
-use any_location::of_record;
 use record::Body;
 use record::Kind;
 use record::MuNaEdit;
@@ -21,28 +20,28 @@ pub fn any_body(b: Body) -> AnyBody
         Body::Cds(x) => {
             let loc = x.loc;
             let edit = x.edit;
-            AnyBody::Nucleotide(Kind::Cds, of_record::of_cds(loc), edit)
+            AnyBody::Nucleotide(Kind::Cds, any_of_record::of_cds(loc), edit)
         }
         Body::Genome(x) => {
             let loc = x.loc;
             let edit = x.edit;
-            AnyBody::Nucleotide(Kind::Genome, of_record::of_genome(loc), edit)
+            AnyBody::Nucleotide(Kind::Genome, any_of_record::of_genome(loc), edit)
         }
         Body::Mt(x) => {
             let loc = x.loc;
             let edit = x.edit;
-            AnyBody::Nucleotide(Kind::Mt, of_record::of_mt(loc), edit)
+            AnyBody::Nucleotide(Kind::Mt, any_of_record::of_mt(loc), edit)
         }
         Body::Tx(x) => {
             let loc = x.loc;
             let edit = x.edit;
-            AnyBody::Nucleotide(Kind::Tx, of_record::of_tx(loc), edit)
+            AnyBody::Nucleotide(Kind::Tx, any_of_record::of_tx(loc), edit)
         }
         Body::Prot(x) => AnyBody::Protein(x),
         Body::Rna(x) => {
             let loc = x.loc;
             let edit = x.edit;
-            AnyBody::Nucleotide(Kind::Rna, of_record::of_rna(loc), edit)
+            AnyBody::Nucleotide(Kind::Rna, any_of_record::of_rna(loc), edit)
         }
     }
 }

@@ -1,12 +1,9 @@
-// Positions and locations of any kind: what the readers make and the writers take, and the ways to a record and back.
+// Positions and locations of any kind: what the readers make and the writers take.
 use record::CdsFrom;
 use record::Offset;
 use record::Span;
 ghost use mathlib.Core.Path.{_≡_};
 ghost use Rattle.any_location.specs.OfTree.{plainOf, uncertainOf};
-
-pub mod to_record; // to_record.rt: as that of a record, of each kind
-pub mod of_record; // of_record.rt: from that of a record
 
 // A position of any kind. Where a kind has no residue, none unknown, no anchor or no offset, 0..0, false, the start or no offset stands.
 pub struct Position {

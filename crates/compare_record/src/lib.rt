@@ -82,7 +82,7 @@ fn of_protein(header: Fields, x: ProtLocEdit) -> Shown {
         ProtLocEdit::Ordinary(l, e) => located(
             header,
             Kind::Prot,
-            any_location::of_record::of_prot(l),
+            any_of_record::of_prot(l),
             edits::of_protein(e),
         ),
         ProtLocEdit::NoChange => short(header, forms::NO_CHANGE),

@@ -88,7 +88,7 @@ fn prot_width(p: ProtLocEdit) -> BodyWidth
     ensures { λ r. ⌜ widthGiven r ≡ protWidth p ⌝ }
 {
     match p {
-        ProtLocEdit::Ordinary(loc, _) => location_width(any_location::of_record::of_prot(loc)),
+        ProtLocEdit::Ordinary(loc, _) => location_width(any_of_record::of_prot(loc)),
         ProtLocEdit::NoChange => BodyWidth::NoWidth,
         ProtLocEdit::NoChangeUncertain => BodyWidth::NoWidth,
         ProtLocEdit::NoProtein => BodyWidth::NoWidth,

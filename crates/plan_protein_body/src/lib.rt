@@ -211,12 +211,7 @@ pub fn plan_protein_body(table: &[u8; 256], source: &[u8], b: ProtLocEdit) -> Bo
     ensures { λ r. ⌜ r ≡ planProteinBody (now (source .entry)) b ⌝ }
 {
     match b {
-        ProtLocEdit::Ordinary(l, e) => plan_mu(
-            table,
-            source,
-            any_location::of_record::of_prot(l),
-            e,
-        ),
+        ProtLocEdit::Ordinary(l, e) => plan_mu(table, source, any_of_record::of_prot(l), e),
         ProtLocEdit::NoChange => word_body(Word::Equal),
         ProtLocEdit::NoChangeUncertain => word_body(Word::NoChangeUncertain),
         ProtLocEdit::NoProtein => word_body(Word::NoProtein),

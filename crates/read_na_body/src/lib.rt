@@ -34,24 +34,24 @@ fn loc_edit(kind: Kind, l: Location, edit: MuNaEdit) -> Body
 {
     match kind {
         Kind::Cds => {
-            let loc = any_location::to_record::cds_interval(l);
+            let loc = any_to_record::cds_interval(l);
             Body::Cds(CdsLocEdit { loc, edit })
         }
         Kind::Genome => {
-            let loc = any_location::to_record::genome_interval(l);
+            let loc = any_to_record::genome_interval(l);
             Body::Genome(GenomeLocEdit { loc, edit })
         }
         Kind::Mt => {
-            let loc = any_location::to_record::mt_interval(l);
+            let loc = any_to_record::mt_interval(l);
             Body::Mt(MtLocEdit { loc, edit })
         }
         Kind::Tx => {
-            let loc = any_location::to_record::tx_interval(l);
+            let loc = any_to_record::tx_interval(l);
             Body::Tx(TxLocEdit { loc, edit })
         }
         Kind::Prot => Body::Prot(ProtLocEdit::Unknown),
         Kind::Rna => {
-            let loc = any_location::to_record::rna_interval(l);
+            let loc = any_to_record::rna_interval(l);
             Body::Rna(RnaLocEdit { loc, edit })
         }
     }

@@ -76,7 +76,7 @@ fn after_location(
     ) else {
         return OrdinaryRead::Nothing;
     };
-    let loc = any_location::to_record::prot_interval(l);
+    let loc = any_to_record::prot_interval(l);
     OrdinaryRead::Found(
         ProtLocEdit::Ordinary(loc, edit),
         n + m,
@@ -103,7 +103,7 @@ fn inside_brackets(
     if !words::begins(&s[m..], b")") {
         return OrdinaryRead::Nothing;
     }
-    let loc = any_location::to_record::prot_interval(any_location::uncertain(l));
+    let loc = any_to_record::prot_interval(any_location::uncertain(l));
     OrdinaryRead::Found(
         ProtLocEdit::Ordinary(loc, MuProteinEdit::Uncertain(edit)),
         1 + n + m + 1,
