@@ -1,4 +1,4 @@
--- An i32 in 64 bits, and what is known of one below 0.
+-- What is known of an i32 below 0, and of one that is not.
 use mathlib.Core.Path.{_≡_, refl}
 use mathlib.Core.Bool.{true, false}
 use native.Mathlib.Omega.{arith}
@@ -7,14 +7,9 @@ use lib.Dec.{T}
 use lib.IntN.{ℤ, pos, negsuc, negℤ, natAbs}
 use lib.Signed.{ltZ, nonNeg}
 use mir.Syntax.{w32, w64}
-use mir.Val.{Fits, SFits, toZ, ofZ}
-use mir.Facts.{toZ-ofZ, sfits-widen}
+use mir.Val.{Fits, SFits}
 use Rattle.texts.specs.Tests.{clash}
 
-pub widened : {a : ℤ} → SFits w32 a → toZ w64 (ofZ w64 (toZ w32 (ofZ w32 a))) ≡ a
-widened {a} f = let g : SFits w64 a = sfits-widen tt f in rw (toZ-ofZ f) (toZ-ofZ g)
-
--- what is known of one below 0
 pub record Below (a : ℤ) : Type 0 where
   pub wide : SFits w64 (negℤ a)
   pub unsigned : T (nonNeg (negℤ a)) × Fits w32 (natAbs (negℤ a))

@@ -10,7 +10,7 @@ use mir.Syntax.{w32, w64}
 use mir.Val.{SFits, toZ, ofZ}
 use mir.Facts.{toZ-ofZ}
 use Rattle.texts.specs.Tests.{clash}
-use Rattle.numerals.proofs.Machine.{widened}
+use Rattle.numerals.specs.Widened.{widened}
 
 pub record Apart (a b : ℤ) : Type 0 where
   pub gap : ℕ

@@ -6,5 +6,5 @@ pub mod Signs
 pub mod Numbers
 pub mod Written
 pub mod Plain
-pub mod Negation
+pub mod Widened
 pub mod Examples

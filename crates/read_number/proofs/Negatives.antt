@@ -8,7 +8,7 @@ use mir.Val.{SFits, toZ, ofZ}
 use mir.Facts.{toZ-pos, sfits-widen}
 use Rattle.numerals.specs.declared.Sign.the-variants.{Minus}
 use Rattle.numerals.specs.Signs.{signed-fits}
-use Rattle.numerals.specs.Negation.{negation, negation-fits}
+use Rattle.numerals.specs.Widened.{negation, negation-fits}
 
 module _ (v : ℕ) (h : v ≤ 2147483648) where
   as-i64 : toZ w64 v ≡ pos v

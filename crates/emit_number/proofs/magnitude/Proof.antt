@@ -1,7 +1,7 @@
 use borrow.Author.Needs.{needs}
 use mir.Facts.{toZ-ofZ, sfits-widen, fits-natAbs}
-use Rattle.numerals.specs.Negation.{negation, negation-fits}
-use Rattle.emit_number.proofs.BelowZero.{widened, Below, below-zero, not-below-zero}
+use Rattle.numerals.specs.Widened.{negation, negation-fits, widened}
+use Rattle.emit_number.proofs.BelowZero.{Below, below-zero, not-below-zero}
 use Rattle.emit_number.proofs.magnitude.Statement.{statement}
 use Rattle.emit_number.proofs.magnitude.Tie as tie
 
