@@ -2,7 +2,7 @@ use mathlib.Core.Path.{_≡_, sym, ap, _∙_}
 use mathlib.Core.List.{[], _∷_}
 use Rattle.grammar.specs.Bodies.{ProteinBody.met1, ProteinBody.bracketedMet1, ProteinBody.noProteinUncertain, ProteinBody.noProtein, ProteinBody.noChangeUncertain, ProteinBody.noChange, ProteinBody.unknown}
 use Rattle.lang_bodies.specs.ProteinBodies.{exactBodies, firstExact}
-use Rattle.read_protein_body.specs.ProteinBodyAnswers.{exactAnswer}
+use Rattle.read_protein_body.specs.ExactAnswers.{exactAnswer}
 use Rattle.read_protein_body.proofs.ProteinBodyCases.{this-exact, next-exact, no-exact}
 use borrow.Author.Needs.{needs}
 use Rattle.read_protein_body.proofs.exact.Statement.{statement}

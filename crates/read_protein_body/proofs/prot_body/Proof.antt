@@ -1,5 +1,6 @@
 use mathlib.Core.Path.{_≡_, sym, _∙_}
-use Rattle.read_protein_body.proofs.ProteinBodyCases.{exact-told, exact-none, OrdinaryTold, ordinary-told, exact-found, body-none, body-open, body-found}
+use Rattle.read_protein_body.proofs.ProteinBodyCases.{exact-told, exact-none, exact-found, body-none, body-open, body-found}
+use Rattle.read_protein_change.specs.Told.{OrdinaryTold, ordinary-told}
 use mathlib.Core.Option.{none}
 use Rattle.lang_bodies.specs.ProteinBodies.{exactBodies, firstExact}
 use borrow.Author.Needs.{needs}

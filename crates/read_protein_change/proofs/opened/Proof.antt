@@ -8,10 +8,10 @@ use Rattle.texts.specs.Words.{starts}
 use Rattle.texts.specs.Slices.{tail-room}
 use Rattle.record.specs.declared.Kind.the-variants.{Prot}
 use Rattle.read_location.specs.Told.{IntervalTold, interval-told, interval-within}
-use Rattle.read_protein_body.proofs.ProteinBodyCases.{opened-none, closed-le, shut-found, brackets-found}
+use Rattle.read_protein_change.proofs.ProteinChangeCases.{opened-none, closed-le, shut-found, brackets-found}
 use borrow.Author.Needs.{needs}
-use Rattle.read_protein_body.proofs.opened.Statement.{statement}
-use Rattle.read_protein_body.proofs.opened.Tie as tie
+use Rattle.read_protein_change.proofs.opened.Statement.{statement}
+use Rattle.read_protein_change.proofs.opened.Tie as tie
 
 -- the interval that was read, and whether the bracket is closed behind it
 ends : (c : tie.After-l) → IntervalTold Prot (c .before .before .before .before .args .at + 1) (c .before .before .before .before .args .s .now) (c .l .given .0 .0) (c .l .given .0 .1 .0) (c .l .given .0 .1 .1 .0)

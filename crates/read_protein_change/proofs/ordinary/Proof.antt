@@ -5,10 +5,10 @@ use Rattle.texts.specs.Slices.{tail-room}
 use mathlib.Core.Bool.{true}
 use Prim.Native.Nat.{_≤_}
 use lib.ListN.{length}
-use Rattle.read_protein_body.proofs.ProteinBodyCases.{ordinary-opened, ordinary-plain}
+use Rattle.read_protein_change.proofs.ProteinChangeCases.{ordinary-opened, ordinary-plain}
 use borrow.Author.Needs.{needs}
-use Rattle.read_protein_body.proofs.ordinary.Statement.{statement}
-use Rattle.read_protein_body.proofs.ordinary.Tie as tie
+use Rattle.read_protein_change.proofs.ordinary.Statement.{statement}
+use Rattle.read_protein_change.proofs.ordinary.Tie as tie
 
 -- the opening bracket
 bracket : (c : tie.Then1) → starts (ascii "(") (c .before .before .before .before .args .s .now) ≡ true

@@ -1,10 +1,10 @@
 use mathlib.Core.Path.{sym, _∙_}
 use native.Mathlib.Omega.{arith}
 use Rattle.read_protein_edit.specs.Told.{MuTold, mu-told}
-use Rattle.read_protein_body.proofs.ProteinBodyCases.{mu-none, mu-le, after-found}
+use Rattle.read_protein_change.proofs.ProteinChangeCases.{mu-none, mu-le, after-found}
 use borrow.Author.Needs.{needs}
-use Rattle.read_protein_body.proofs.after_location.Statement.{statement}
-use Rattle.read_protein_body.proofs.after_location.Tie as tie
+use Rattle.read_protein_change.proofs.after_location.Statement.{statement}
+use Rattle.read_protein_change.proofs.after_location.Tie as tie
 
 -- the edit that was read
 edit : (c : tie.After-edit) → MuTold (c .before .before .before .before .args .at) (c .before .before .before .before .args .s .now) (c .edit .given .0 .0) (c .edit .given .0 .1 .0) (c .edit .given .0 .1 .1 .0)

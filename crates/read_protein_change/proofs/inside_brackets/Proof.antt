@@ -7,10 +7,10 @@ use borrow.Author.Tests.{not-true, not-false}
 use Rattle.texts.specs.Ascii.{ascii}
 use Rattle.texts.specs.Words.{starts}
 use Rattle.read_protein_edit.specs.Told.{EditTold, edit-told}
-use Rattle.read_protein_body.proofs.ProteinBodyCases.{edit-none, edit-le, shut-le, not-shut, inside-found}
+use Rattle.read_protein_change.proofs.ProteinChangeCases.{edit-none, edit-le, shut-le, not-shut, inside-found}
 use borrow.Author.Needs.{needs}
-use Rattle.read_protein_body.proofs.inside_brackets.Statement.{statement}
-use Rattle.read_protein_body.proofs.inside_brackets.Tie as tie
+use Rattle.read_protein_change.proofs.inside_brackets.Statement.{statement}
+use Rattle.read_protein_change.proofs.inside_brackets.Tie as tie
 
 -- the edit that was read, and the bracket behind it
 edit : (c : tie.After-edit) → EditTold (c .before .before .before .before .args .at) (c .before .before .before .before .args .s .now) (c .edit .given .0 .0) (c .edit .given .0 .1 .0) (c .edit .given .0 .1 .1 .0)

@@ -3,10 +3,10 @@ use native.Mathlib.Omega.{arith}
 use Rattle.record.specs.declared.Kind.the-variants.{Prot}
 use Rattle.read_location.specs.Told.{IntervalTold, interval-told, interval-within}
 use Rattle.texts.specs.Slices.{tail-room}
-use Rattle.read_protein_body.proofs.ProteinBodyCases.{plain-none, plain-found}
+use Rattle.read_protein_change.proofs.ProteinChangeCases.{plain-none, plain-found}
 use borrow.Author.Needs.{needs}
-use Rattle.read_protein_body.proofs.plain.Statement.{statement}
-use Rattle.read_protein_body.proofs.plain.Tie as tie
+use Rattle.read_protein_change.proofs.plain.Statement.{statement}
+use Rattle.read_protein_change.proofs.plain.Tie as tie
 
 -- the interval that was read
 ends : (c : tie.After-l) → IntervalTold Prot (c .before .before .before .before .args .at) (c .before .before .before .before .args .s .now) (c .l .given .0 .0) (c .l .given .0 .1 .0) (c .l .given .0 .1 .1 .0)

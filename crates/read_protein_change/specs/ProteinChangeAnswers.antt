@@ -24,30 +24,24 @@ use Rattle.lang_bodies.specs.Settled.{settledProteinBody}
 use Rattle.any_location.specs.declared.Location.{Location}
 use Rattle.any_location.specs.OfTree.{uncertainOf}
 use Rattle.any_location.specs.ToRecord.{locationFor}
-use Rattle.read_protein_body.specs.declared.ExactRead.{ExactRead}
-use Rattle.read_protein_body.specs.declared.ExactRead.the-variants as ER
-use Rattle.read_protein_body.specs.declared.OrdinaryRead.{OrdinaryRead}
-use Rattle.read_protein_body.specs.declared.OrdinaryRead.the-variants as OR
-
-abbrev pub exactAnswer : Option ProteinBody → ExactRead
-exactAnswer none = ER.Nothing
-exactAnswer (some b) = ER.Found (proteinBodyAt 0 b)
+use Rattle.read_protein_change.specs.declared.OrdinaryRead.{OrdinaryRead}
+use Rattle.read_protein_change.specs.declared.OrdinaryRead.the-variants.{Nothing, Found}
 
 abbrev pub proteinBodies : Account ProteinBody ProtLocEdit
 proteinBodies = record { readAt = proteinBodyAt; print = printProteinBody; numbersAt = proteinBodyNumbers; settled = settledProteinBody }
 
 abbrev pub ordinaryAnswer : ℕ → Option ProteinBody → OrdinaryRead
-ordinaryAnswer = answered OR.Nothing OR.Found proteinBodies
+ordinaryAnswer = answered Nothing Found proteinBodies
 
 -- behind a location l of n bytes with faults f
 abbrev pub afterAnswer : Location → ℕ → Faults → ℕ → Option (Mu ProteinEditTree) → OrdinaryRead
-afterAnswer l n f at none = OR.Nothing
-afterAnswer l n f at (some e) = OR.Found (Ordinary (locationFor Prot l) (muProteinEditAt at e)) (n + length (printMu printProteinEdit e)) (first f (faults (muNumbers proteinEditNumbers at e) (settledMu settledProteinEdit e)))
+afterAnswer l n f at none = Nothing
+afterAnswer l n f at (some e) = Found (Ordinary (locationFor Prot l) (muProteinEditAt at e)) (n + length (printMu printProteinEdit e)) (first f (faults (muNumbers proteinEditNumbers at e) (settledMu settledProteinEdit e)))
 
 -- the same inside one pair of brackets, s from the edit on
 abbrev pub insideAnswer : Location → ℕ → Faults → ℕ → List ℕ → Option ProteinEditTree → OrdinaryRead
-insideAnswer l n f at s none = OR.Nothing
+insideAnswer l n f at s none = Nothing
 insideAnswer l n f at s (some e) =
     cond (starts (ascii ")") (drop (length (printProteinEdit e)) s))
-    (OR.Found (Ordinary (locationFor Prot (uncertainOf l)) (Uncertain (proteinEditAt at e))) (1 + n + length (printProteinEdit e) + 1) (first f (faults (proteinEditNumbers at e) (settledProteinEdit e))))
-    OR.Nothing
+    (Found (Ordinary (locationFor Prot (uncertainOf l)) (Uncertain (proteinEditAt at e))) (1 + n + length (printProteinEdit e) + 1) (first f (faults (proteinEditNumbers at e) (settledProteinEdit e))))
+    Nothing

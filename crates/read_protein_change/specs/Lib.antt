@@ -1,0 +1,2 @@
+pub mod ProteinChangeAnswers
+pub mod Told
