@@ -1,4 +1,4 @@
--- Laws behind the proofs: how long a refusal is, and what was answered for a text whose room is a part of lent room.
+-- What was answered for a text whose room is a part of lent room.
 use Prim.Native.Nat.{ℕ, _+_, _-_, _≤_, _<_, _^_}
 use mathlib.Core.Path.{_≡_, refl, ap, _∙_}
 use mathlib.Core.Bool.{Bool, true, false, cond}
@@ -8,7 +8,6 @@ use lib.ListN.{length, take, drop, length-append, length-drop, drop-of-length-le
 use lib.Seq.{drop-drop}
 use Rattle.texts.specs.Slices.{tail-part}
 use Rattle.lent.specs.Put.{put, put-front}
-use Rattle.numerals.specs.Digits.{dec}
 use Rattle.grammar.specs.Texts.{allLetters}
 use Rattle.promise.specs.Outcome.{Outcome.refused, limit}
 use Rattle.promise.specs.Reading.{Reads, Reads.tooLong, Reads.notInGrammar, Reads.doesNotFit}
@@ -19,10 +18,6 @@ use Rattle.lines.specs.Lines.{Held.whole, Held.tooLong}
 use Rattle.line_promise.specs.LineAnswers.{refusal}
 use Rattle.line_promise.specs.Computed.{lineAnswer}
 use Rattle.line_promise.specs.OneLineAnswer.{refused-answer, written-answer}
-
-pub refusal-length : (n place : ℕ) → length (refusal n place) ≡ 2 + (length (dec n) + (1 + length (dec place)))
-unfolding refusal
-refusal-length n place = simp length-append (omega arith)
 
 joined : (a t d : List ℕ) → a ++ (t ++ d ++ []) ≡ a ++ t ++ d
 joined a t d = simp (append-nil, append-assoc) refl

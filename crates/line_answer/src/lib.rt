@@ -6,18 +6,7 @@ ghost use Prim.Native.Nat.{_+_, _≤_};
 ghost use lib.ListN.{length};
 ghost use Rattle.lent.specs.Put.{put};
 ghost use Rattle.lines.specs.Lines.{lineEnd, Held.whole, Held.tooLong};
-ghost use Rattle.line_promise.specs.LineAnswers.{refusal};
 ghost use Rattle.line_promise.specs.Computed.{lineAnswer};
-
-fn put_refusal(out: &mut [u8], at: usize, number: u32, place: u32) -> usize
-    requires { ⌜ at + length (refusal number place) ≤ length (now out) ⌝ }
-    ensures { λ r. ⌜ (r ≡ at + length (refusal number place)) × (now (out .exit) ≡ put (now (out .entry)) at (refusal number place)) ⌝ }
-{
-    let a = lent::put_bytes(out, at, b"! ");
-    let b = emit_number::put_decimal(out, a, number);
-    let c = lent::put_bytes(out, b, b" ");
-    emit_number::put_decimal(out, c, place)
-}
 
 // A line may be longer than what is held of it.
 fn put_answer(line: &[u8], long: bool, out: &mut [u8], at: usize) -> usize
@@ -25,13 +14,13 @@ fn put_answer(line: &[u8], long: bool, out: &mut [u8], at: usize) -> usize
     ensures { λ r. ⌜ (r ≡ at + length (lineAnswer (cond long tooLong (whole (now (line .entry)))))) × (now (out .exit) ≡ put (now (out .entry)) at (lineAnswer (cond long tooLong (whole (now (line .entry)))))) ⌝ }
 {
     if long {
-        return put_refusal(out, at, 1, 0);
+        return line_refusal::put_refusal(out, at, 1, 0);
     }
     let a = rewriter::shortest(line, &mut out[at..]);
     if a.number == 0 {
         return at + a.value as usize;
     }
-    put_refusal(out, at, a.number as u32, a.place as u32)
+    line_refusal::put_refusal(out, at, a.number as u32, a.place as u32)
 }
 
 // The answer to a line and LF at a place; gives the place behind them.

@@ -17,9 +17,9 @@ use Rattle.lang_na_edits.specs.Settled.{settledNaEdit}
 use Rattle.lang_na_edits.specs.Alphabet.{nucleotides}
 use Rattle.lang_na_edits.specs.Sound.{naEditLang}
 use Rattle.lang_na_edits.specs.Brackets.{muNaEditLang}
-use Rattle.read_na_edit.specs.declared.NaEditRead.the-variants as Edits
+use Rattle.read_na_forms.specs.declared.NaEditRead.the-variants as Edits
 use Rattle.read_na_edit.specs.declared.MuNaEditRead.the-variants as Mus
-use Rattle.read_na_edit.specs.NaEditAnswers.{muNaEdits, muNaEditAnswer}
+use Rattle.read_na_edit.specs.MuNaEditAnswers.{muNaEdits, muNaEditAnswer}
 
 pub edit-cases : Cases Edits.Nothing Edits.Found
 edit-cases = record { apart = λ e. let y : _≡_ {A = ℕ} 0 1 = cc in omega arith; same = λ e. (cc, cc, cc) }

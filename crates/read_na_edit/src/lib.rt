@@ -1,205 +1,23 @@
 // Reading a nucleotide edit, which is certain, or uncertain when in round brackets.
-use alphabet::Class;
-use numerals::Number;
-use numerals::Sign;
+use read_na_forms::NaEditRead;
 use read_scan::Ending;
 use read_scan::Faults;
 use record::MuNaEdit;
-use record::NaEdit;
 ghost use mathlib.Core.Path.{_≡_};
-ghost use mathlib.Core.Option.{some};
 ghost use Prim.Native.Nat.{_+_, _≤_};
 ghost use lib.ListN.{length};
-ghost use Rattle.texts.specs.Runs.{front, behind};
 ghost use Rattle.alphabet.specs.Cells.{IsTable};
-ghost use Rattle.alphabet.specs.Letters.{digit, nucleotide};
-ghost use Rattle.numerals.specs.declared.Sign.the-variants.{Plain};
-ghost use Rattle.numerals.specs.Reading.{numberAt};
+ghost use Rattle.alphabet.specs.Letters.{nucleotide};
 ghost use Rattle.lang_na_edits.specs.Alphabet.{nucleotides};
-ghost use Rattle.lang_na_edits.specs.Parse.{parseIdent, parseSubst, inserted as insertedLetters, afterDelNum, afterDel, afterInv, parseDel, parseIns, parseDup, parseInv};
 ghost use Rattle.lang_na_edits.specs.Sound.{naEditLang};
 ghost use Rattle.lang_na_edits.specs.Brackets.{muNaEditLang};
-ghost use Rattle.read_na_edit.specs.NaEditAnswers.{naEditAnswer, muNaEditAnswer};
+ghost use Rattle.read_na_forms.specs.NaEditAnswers.{naEditAnswer};
+ghost use Rattle.read_na_edit.specs.MuNaEditAnswers.{muNaEditAnswer};
 
-// What stands at the front of a text: the edit, the length of its text, and what is wrong with it.
-pub enum NaEditRead {
-    Nothing,
-    Found(NaEdit, usize, Faults),
-}
-
+// The edit, the length of its text with the brackets, and what is wrong with it.
 pub enum MuNaEditRead {
     Nothing,
     Found(MuNaEdit, usize, Faults),
-}
-
-// In each routine `at` is where the edit starts in the whole text.
-
-// seq `=`
-fn ident(table: &[u8; 256], s: &[u8], at: usize) -> NaEditRead
-    requires { ⌜ (at + length (now s) ≤ 4096) × IsTable (now table) ⌝ }
-    ensures { λ r. ⌜ r ≡ naEditAnswer at (parseIdent nucleotide (now (s .entry))) ⌝ }
-{
-    let m = alphabet::run_of(table, Class::Nucleotide, s);
-    if words::begins(&s[m..], b"=") {
-        let seq = read_scan::span(at, m);
-        return NaEditRead::Found(NaEdit::RefAlt(seq, seq), m + 1, read_scan::no_faults());
-    }
-    NaEditRead::Nothing
-}
-
-// letter `>` letter
-fn subst(table: &[u8; 256], s: &[u8], at: usize) -> NaEditRead
-    requires { ⌜ (at + length (now s) ≤ 4096) × IsTable (now table) ⌝ }
-    ensures { λ r. ⌜ r ≡ naEditAnswer at (parseSubst nucleotide (now (s .entry))) ⌝ }
-{
-    if s.len() < 3 {
-        return NaEditRead::Nothing;
-    }
-    if s[1] != b'>' {
-        return NaEditRead::Nothing;
-    }
-    if !alphabet::is_in(table, Class::Nucleotide, s[0]) {
-        return NaEditRead::Nothing;
-    }
-    if !alphabet::is_in(table, Class::Nucleotide, s[2]) {
-        return NaEditRead::Nothing;
-    }
-    NaEditRead::Found(
-        NaEdit::RefAlt(read_scan::span(at, 1), read_scan::span(at + 2, 1)),
-        3,
-        read_scan::settled_if(s[0] != s[2], read_scan::no_faults()),
-    )
-}
-
-// How many letters stand behind `ins`; 0 where there is no `ins`.
-fn inserted(table: &[u8; 256], s: &[u8]) -> usize
-    requires { ⌜ IsTable (now table) ⌝ }
-    ensures { λ r. ⌜ r ≡ length (insertedLetters nucleotide (now (s .entry))) ⌝ }
-{
-    if words::begins(s, b"ins") {
-        return alphabet::run_of(table, Class::Nucleotide, &s[3..]);
-    }
-    0
-}
-
-// Behind `del`, where the number n stands: `ins` seq1, or nothing.
-fn after_del_num(table: &[u8; 256], s: &[u8], at: usize, n: Number) -> NaEditRead
-    requires { ⌜ (at + 3 + length (now s) ≤ 4096) × (n ≡ numberAt Plain (now s)) × IsTable (now table) ⌝ }
-    ensures { λ r. ⌜ r ≡ naEditAnswer at (some (afterDelNum nucleotide (front digit (now (s .entry))) (behind digit (now (s .entry))))) ⌝ }
-{
-    let len = n.len;
-    let b = inserted(table, &s[len..]);
-    let faults = read_scan::faults_of(at + 3, n);
-    if b == 0 {
-        return NaEditRead::Found(NaEdit::DelNum(n.value), 3 + len, faults);
-    }
-    NaEditRead::Found(
-        NaEdit::NumAlt(n.value, read_scan::span(at + 3 + len + 3, b)),
-        3 + len + 3 + b,
-        faults,
-    )
-}
-
-// Behind `del`: seq `ins` seq1, digits `ins` seq1, digits, or seq.
-fn after_del(table: &[u8; 256], s: &[u8], at: usize) -> NaEditRead
-    requires { ⌜ (at + 3 + length (now s) ≤ 4096) × IsTable (now table) ⌝ }
-    ensures { λ r. ⌜ r ≡ naEditAnswer at (some (afterDel nucleotide (now (s .entry)))) ⌝ }
-{
-    let m = alphabet::run_of(table, Class::Nucleotide, s);
-    let b = inserted(table, &s[m..]);
-    if b != 0 {
-        return NaEditRead::Found(
-            NaEdit::RefAlt(
-                read_scan::span(at + 3, m),
-                read_scan::span(at + 3 + m + 3, b),
-            ),
-            3 + m + 3 + b,
-            read_scan::settled_if(m != b, read_scan::no_faults()),
-        );
-    }
-    let n = read_number::number_at(table, s, Sign::Plain);
-    if n.len != 0 {
-        return after_del_num(table, s, at, n);
-    }
-    NaEditRead::Found(
-        NaEdit::DelRef(read_scan::span(at + 3, m)),
-        3 + m,
-        read_scan::no_faults(),
-    )
-}
-
-fn del(table: &[u8; 256], s: &[u8], at: usize) -> NaEditRead
-    requires { ⌜ (at + length (now s) ≤ 4096) × IsTable (now table) ⌝ }
-    ensures { λ r. ⌜ r ≡ naEditAnswer at (parseDel nucleotide (now (s .entry))) ⌝ }
-{
-    if words::begins(s, b"del") {
-        return after_del(table, &s[3..], at);
-    }
-    NaEditRead::Nothing
-}
-
-// `ins` seq1
-fn ins(table: &[u8; 256], s: &[u8], at: usize) -> NaEditRead
-    requires { ⌜ (at + length (now s) ≤ 4096) × IsTable (now table) ⌝ }
-    ensures { λ r. ⌜ r ≡ naEditAnswer at (parseIns nucleotide (now (s .entry))) ⌝ }
-{
-    let m = inserted(table, s);
-    if m == 0 {
-        return NaEditRead::Nothing;
-    }
-    NaEditRead::Found(
-        NaEdit::Ins(read_scan::span(at + 3, m)),
-        3 + m,
-        read_scan::no_faults(),
-    )
-}
-
-// `dup` seq
-fn dup(table: &[u8; 256], s: &[u8], at: usize) -> NaEditRead
-    requires { ⌜ (at + length (now s) ≤ 4096) × IsTable (now table) ⌝ }
-    ensures { λ r. ⌜ r ≡ naEditAnswer at (parseDup nucleotide (now (s .entry))) ⌝ }
-{
-    if words::begins(s, b"dup") {
-        let m = alphabet::run_of(table, Class::Nucleotide, &s[3..]);
-        return NaEditRead::Found(
-            NaEdit::Dup(read_scan::span(at + 3, m)),
-            3 + m,
-            read_scan::no_faults(),
-        );
-    }
-    NaEditRead::Nothing
-}
-
-// Behind `inv`: digits, or seq.
-fn after_inv(table: &[u8; 256], s: &[u8], at: usize) -> NaEditRead
-    requires { ⌜ (at + 3 + length (now s) ≤ 4096) × IsTable (now table) ⌝ }
-    ensures { λ r. ⌜ r ≡ naEditAnswer at (some (afterInv nucleotide (now (s .entry)))) ⌝ }
-{
-    let n = read_number::number_at(table, s, Sign::Plain);
-    let len = n.len;
-    if len != 0 {
-        return NaEditRead::Found(
-            NaEdit::InvNum(n.value),
-            3 + len,
-            read_scan::faults_of(at + 3, n),
-        );
-    }
-    let m = alphabet::run_of(table, Class::Nucleotide, s);
-    NaEditRead::Found(
-        NaEdit::InvRef(read_scan::span(at + 3, m)),
-        3 + m,
-        read_scan::no_faults(),
-    )
-}
-
-fn inv(table: &[u8; 256], s: &[u8], at: usize) -> NaEditRead
-    requires { ⌜ (at + length (now s) ≤ 4096) × IsTable (now table) ⌝ }
-    ensures { λ r. ⌜ r ≡ naEditAnswer at (parseInv nucleotide (now (s .entry))) ⌝ }
-{
-    if words::begins(s, b"inv") {
-        return after_inv(table, &s[3..], at);
-    }
-    NaEditRead::Nothing
 }
 
 // The edit at the front of s: the alternatives in the crate's order.
@@ -207,27 +25,27 @@ fn na_edit_at(table: &[u8; 256], s: &[u8], at: usize) -> NaEditRead
     requires { ⌜ (at + length (now s) ≤ 4096) × IsTable (now table) ⌝ }
     ensures { λ r. ⌜ r ≡ naEditAnswer at (naEditLang nucleotide nucleotides .parse (now (s .entry))) ⌝ }
 {
-    let first = ident(table, s, at);
+    let first = read_na_forms::ident(table, s, at);
     let NaEditRead::Nothing = first else {
         return first;
     };
-    let second = subst(table, s, at);
+    let second = read_na_forms::subst(table, s, at);
     let NaEditRead::Nothing = second else {
         return second;
     };
-    let third = del(table, s, at);
+    let third = read_na_forms::del(table, s, at);
     let NaEditRead::Nothing = third else {
         return third;
     };
-    let fourth = ins(table, s, at);
+    let fourth = read_na_forms::ins(table, s, at);
     let NaEditRead::Nothing = fourth else {
         return fourth;
     };
-    let fifth = dup(table, s, at);
+    let fifth = read_na_forms::dup(table, s, at);
     let NaEditRead::Nothing = fifth else {
         return fifth;
     };
-    inv(table, s, at)
+    read_na_forms::inv(table, s, at)
 }
 
 // The edit at the front of s, in round brackets or not.

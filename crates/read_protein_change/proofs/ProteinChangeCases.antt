@@ -38,7 +38,7 @@ use Rattle.any_location.specs.OfTree.{uncertainOf}
 use Rattle.read_location.specs.LocationAnswers.{intervalAnswer}
 use Rattle.any_location.specs.ToRecord.{locationFor, location-for, uncertain-for}
 use Rattle.read_location.specs.Told.{IntervalTold, interval-unread, interval-within}
-use Rattle.read_protein_edit.specs.declared.ProteinEditRead.the-variants as PR
+use Rattle.read_protein_ends.specs.declared.ProteinEditRead.the-variants as PR
 use Rattle.read_protein_edit.specs.declared.MuProteinEditRead.the-variants as MR
 use Rattle.read_protein_edit.specs.ProteinEditAnswers.{proteinEditAnswer, muProteinEditAnswer}
 use Rattle.read_protein_edit.specs.Told.{EditTold, MuTold, edit-unread, mu-unread}

@@ -2,7 +2,7 @@
 use any_location::Location;
 use read_location::LocationRead;
 use read_protein_edit::MuProteinEditRead;
-use read_protein_edit::ProteinEditRead;
+use read_protein_ends::ProteinEditRead;
 use read_scan::Faults;
 use record::Kind;
 use record::MuProteinEdit;

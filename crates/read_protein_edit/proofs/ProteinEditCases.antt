@@ -26,10 +26,11 @@ use Rattle.read_scan.specs.declared.Faults.{Faults}
 use Rattle.lang_protein_edits.specs.Parse.{bytesOf, stopAt, extEndAt, residuesBehind, insertedAt, wordedAt, parseWith, parse}
 use Rattle.lang_protein_edits.specs.Complete.{bytes-some}
 use Rattle.lang_protein_edits.specs.Settled.{settledProteinEdit}
-use Rattle.read_protein_edit.specs.declared.ProteinEditRead.{ProteinEditRead}
-use Rattle.read_protein_edit.specs.declared.ProteinEditRead.the-variants.{Nothing, Found}
-use Rattle.read_protein_edit.specs.ProteinEditAnswers.{proteinEditAnswer, fsRead, extRead}
-use Rattle.read_protein_edit.proofs.Ends.{bytes-part, bytes-length}
+use Rattle.read_protein_ends.specs.declared.ProteinEditRead.{ProteinEditRead}
+use Rattle.read_protein_ends.specs.declared.ProteinEditRead.the-variants.{Nothing, Found}
+use Rattle.read_protein_ends.specs.EndAnswers.{fsRead, extRead}
+use Rattle.read_protein_edit.specs.ProteinEditAnswers.{proteinEditAnswer}
+use Rattle.read_protein_ends.proofs.Ends.{bytes-part, bytes-length}
 
 -- a tree without numbers
 found : (k : ℕ) (t : ProteinEditTree) (r : D.ProteinEdit) (n : ℕ) (f : Faults) → r ≡ proteinEditAt k t → n ≡ length (printProteinEdit t) → proteinEditNumbers k t ≡ [] → f ≡ settledIf (settledProteinEdit t) noFault

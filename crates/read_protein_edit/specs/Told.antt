@@ -15,7 +15,7 @@ use Rattle.read_scan.specs.MuAccounts.{Bracketed}
 use Rattle.lang_protein_edits.specs.Settled.{settledProteinEdit}
 use Rattle.lang_protein_edits.specs.Parse.{parse}
 use Rattle.lang_protein_edits.specs.Instance.{proteinEditLang, muProteinEditLang}
-use Rattle.read_protein_edit.specs.declared.ProteinEditRead.the-variants as Edits
+use Rattle.read_protein_ends.specs.declared.ProteinEditRead.the-variants as Edits
 use Rattle.read_protein_edit.specs.declared.MuProteinEditRead.the-variants as Mus
 use Rattle.read_protein_edit.specs.ProteinEditAnswers.{proteinEdits, proteinEditAnswer, muProteinEdits, muProteinEditAnswer}
 

@@ -9,9 +9,9 @@ use Rattle.texts.specs.Brackets.{opening-le}
 use Rattle.read_scan.specs.MuAccounts.{mu-none, mu-le, mu-bare, mu-closed, mu-missing}
 use Rattle.alphabet.specs.Letters.{nucleotide}
 use Rattle.lang_na_edits.specs.Parse.{parseNaEdit}
-use Rattle.read_na_edit.specs.declared.NaEditRead.the-variants.{Found}
+use Rattle.read_na_forms.specs.declared.NaEditRead.the-variants.{Found}
 use Rattle.read_na_edit.specs.declared.MuNaEditRead.the-variants as Mus
-use Rattle.read_na_edit.specs.NaEditAnswers.{naEditAnswer}
+use Rattle.read_na_forms.specs.NaEditAnswers.{naEditAnswer}
 use Rattle.read_na_edit.specs.Told.{edit-cases, bracketed}
 use Rattle.read_na_edit.proofs.mu_na_edit_at.Statement.{statement}
 use Rattle.read_na_edit.proofs.mu_na_edit_at.Tie as tie

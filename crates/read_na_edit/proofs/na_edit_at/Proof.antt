@@ -7,8 +7,8 @@ use Rattle.alphabet.specs.Letters.{nucleotide}
 use Rattle.grammar.specs.NucleotideEdits.{NaEditTree}
 use Rattle.lang.specs.Choice.{orNext}
 use Rattle.lang_na_edits.specs.Parse.{parseIdent, parseSubst, parseDel, parseIns, parseDup, parseInv, parseNaEdit}
-use Rattle.read_na_edit.specs.NaEditAnswers.{naEditAnswer}
-use Rattle.read_na_edit.proofs.NaEditCases.{or-found, or-nothing}
+use Rattle.read_na_forms.specs.NaEditAnswers.{naEditAnswer}
+use Rattle.read_na_edit.proofs.FirstOfTwo.{or-found, or-nothing}
 use borrow.Author.Needs.{needs}
 use Rattle.read_na_edit.proofs.na_edit_at.Statement.{statement}
 use Rattle.read_na_edit.proofs.na_edit_at.Tie as tie

@@ -8,7 +8,7 @@ use Rattle.texts.specs.Slices.{tail, tail-room}
 use Rattle.texts.specs.Brackets.{opening-le}
 use Rattle.read_scan.specs.MuAccounts.{mu-none, mu-le, mu-bare, mu-closed, mu-missing}
 use Rattle.lang_protein_edits.specs.Parse.{parse}
-use Rattle.read_protein_edit.specs.declared.ProteinEditRead.the-variants.{Found}
+use Rattle.read_protein_ends.specs.declared.ProteinEditRead.the-variants.{Found}
 use Rattle.read_protein_edit.specs.declared.MuProteinEditRead.the-variants as Mus
 use Rattle.read_protein_edit.specs.ProteinEditAnswers.{proteinEditAnswer}
 use Rattle.read_protein_edit.specs.Told.{edit-cases, bracketed}

@@ -1,0 +1,52 @@
+-- The letters behind `ins`, or none.
+use mathlib.Core.Path.{_≡_, refl, sym, _∙_}
+use mathlib.Core.Bool.{true}
+use Rattle.texts.specs.Ascii.{ascii}
+use Rattle.texts.specs.Words.{starts}
+use Rattle.alphabet.specs.Letters.{nucleotide}
+use Rattle.alphabet.specs.Classes.{member}
+use Rattle.read_na_forms.proofs.NaFormCases.{word-long, inserted-some, inserted-none}
+use borrow.Author.Needs.{needs}
+use Rattle.read_na_forms.proofs.inserted.Statement.{statement}
+use Rattle.read_na_forms.proofs.inserted.Tie as tie
+
+is-ins : (c : tie.Then1) → starts (ascii "ins") (c .before .before .before .before .args .s .now) ≡ true
+is-ins c = sym (c .before .begins .ensures) ∙ c .if1 .taken
+
+slice-aggregate-begins : tie.Need-slice-aggregate-begins
+slice-aggregate-begins c = search needs
+
+begins-requires : tie.Need-begins-requires
+begins-requires c κs = search needs
+
+sub-run-of : tie.Need-sub-run-of
+sub-run-of c = word-long (ascii "ins") _ refl (is-ins c)
+
+part-run-of-start : tie.Need-part-run-of-start
+part-run-of-start c = word-long (ascii "ins") _ refl (is-ins c)
+
+part-run-of-end : tie.Need-part-run-of-end
+part-run-of-end c = search needs
+
+run-of-requires : tie.Need-run-of-requires
+run-of-requires c κs = search needs
+
+returns : tie.Need-returns
+unfolding member
+returns c = inserted-some nucleotide _ _ (is-ins (c .before .before)) (c .run-of .ensures)
+
+returns-2 : tie.Need-returns-2
+returns-2 c = inserted-none nucleotide _ (sym (c .before .begins .ensures) ∙ c .if1 .left)
+
+pub inserted-spec : {M : Type 1} → statement M
+inserted-spec =
+    tie.close
+    (tie.spec
+    slice-aggregate-begins
+    begins-requires
+    sub-run-of
+    part-run-of-start
+    part-run-of-end
+    run-of-requires
+    returns
+    returns-2)
