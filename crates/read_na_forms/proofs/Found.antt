@@ -26,9 +26,9 @@ use Rattle.read_scan.specs.Faults.{faults, none, ofNumber, settledIf, settled-n
 use Rattle.read_scan.specs.Reading.{number-len, number-value, number-faults}
 use Rattle.read_scan.specs.declared.Faults.{Faults}
 use Rattle.lang_na_edits.specs.Settled.{settledNaEdit}
-use Rattle.read_na_edit.specs.declared.NaEditRead.the-variants.{Found}
+use Rattle.read_na_forms.specs.declared.NaEditRead.the-variants.{Found}
 use Rattle.read_scan.specs.Accounts.{answered}
-use Rattle.read_na_edit.specs.NaEditAnswers.{naEditAnswer}
+use Rattle.read_na_forms.specs.NaEditAnswers.{naEditAnswer}
 
 module _ (k : ℕ) (t : NaEditTree) (r : D.NaEdit) (n : ℕ) (f : Faults) (er : r ≡ naEditAt k t) (en : n ≡ length (printNaEdit t)) where
   found : f ≡ faults (naEditNumbers k t) (settledNaEdit t) → Found r n f ≡ naEditAnswer k (some t)
