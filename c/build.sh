@@ -1,5 +1,5 @@
 #!/usr/bin/env bash
-# Builds the static library, proving it again, and the C example over it: target/c/example.
+# Builds the library for C, target/c/libsaltwhistle.a, proving it again, and the example over it, target/c/example.
 set -euo pipefail
 cd "$(dirname "$0")/.."
 for tool in rt gcc; do
@@ -10,5 +10,6 @@ for tool in rt gcc; do
 done
 rt staticlib saltwhistle_c
 mkdir -p target/c
-gcc -std=c11 -Wall -Wextra -Werror -O2 -Ic c/example.c target/staticlib/libsaltwhistle_c.a -o target/c/example
-echo "built target/staticlib/libsaltwhistle_c.a and target/c/example"
+cp target/staticlib/libsaltwhistle_c.a target/c/libsaltwhistle.a
+gcc -std=c11 -Wall -Wextra -Werror -O2 -Ic c/example.c target/c/libsaltwhistle.a -o target/c/example
+echo "built target/c/libsaltwhistle.a and target/c/example"

@@ -1,6 +1,6 @@
 /* Saltwhistle: HGVS variant lines, read, rewritten and measured.
  *
- * Link with libsaltwhistle_c.a (c/build.sh makes it). No function allocates, keeps state, calls back or
+ * Link with libsaltwhistle.a (c/build.sh makes it). No function allocates, keeps state, calls back or
  * writes anywhere but in the output it was lent; each ends on any bytes, and may be called from any thread.
  *
  * The caller's part: a pointer and a length name readable (output: writable) memory of that length, and text
