@@ -9,7 +9,7 @@ use lib.ListN.{length, getD}
 use Rattle.texts.specs.Tests.{and-true, clash}
 use Rattle.alphabet.specs.Letters.{digit, letter, alphanumeric, nucleotide, residue}
 use Rattle.alphabet.specs.Classes.{member}
-use Rattle.alphabet.specs.Cells.{bit, numbered, Cell, IsTable, classTable}
+use Rattle.alphabet.specs.Cells.{within, lowest, highest, numbered, Cell, IsTable, classTable}
 use Rattle.alphabet.specs.declared.Class.{Class}
 use Rattle.alphabet.specs.declared.Class.the-variants.{Digit, Letter, Alphanumeric, Nucleotide, Residue}
 
@@ -53,7 +53,7 @@ entry ks e b h =
     }
 
 table-rule : (b : ℕ) → b < 256 → Cell b (getD classTable b 0)
-unfolding digit letter alphanumeric nucleotide residue member bit numbered
+unfolding digit letter alphanumeric nucleotide residue member within lowest highest numbered
 table-rule = entry classTable refl
 
 pub table : IsTable classTable

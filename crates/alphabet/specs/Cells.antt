@@ -1,10 +1,9 @@
--- The numbers of the class table, and its rule: a byte's number has a class's bit exactly where the byte is of the class.
+-- The numbers of the class table, and its rule: a byte's number is one of a class's numbers exactly where the byte is of the class.
 use Prim.Native.Nat.{ℕ, zero, suc, _<_}
 use mathlib.Core.Path.{_≡_}
-use mathlib.Core.Bool.{Bool, cond, not, _&&_}
+use mathlib.Core.Bool.{Bool, cond, _&&_}
 use mathlib.Core.List.{List, [], _∷_}
-use lib.Dec.{eqb, leb}
-use lib.Bits.{bitAnd}
+use lib.Dec.{leb}
 use lib.ListN.{getD}
 use Rattle.texts.specs.Ascii.{ascii}
 use Rattle.alphabet.specs.Letters.{among}
@@ -15,16 +14,23 @@ use Rattle.alphabet.specs.declared.Class.the-variants.{Digit, Letter, Al
 unfoldable pub within : ℕ → ℕ → ℕ → Bool
 within low high k = leb low k && leb k high
 
-unfoldable pub bit : Class → ℕ
-bit Digit = 1
-bit Letter = 2
-bit Alphanumeric = 4
-bit Nucleotide = 8
-bit Residue = 16
+-- the numbers of a class are a range
+unfoldable pub lowest : Class → ℕ
+lowest Digit = 10
+lowest Letter = 2
+lowest Alphanumeric = 2
+lowest Nucleotide = 3
+lowest Residue = 1
 
--- the class's bit is one of k's
+unfoldable pub highest : Class → ℕ
+highest Digit = 10
+highest Letter = 9
+highest Alphanumeric = 10
+highest Nucleotide = 8
+highest Residue = 5
+
 unfoldable pub numbered : Class → ℕ → Bool
-numbered class k = not (eqb (bitAnd k (bit class)) 0)
+numbered class k = within (lowest class) (highest class) k
 
 -- k is the number of b
 pub record Cell (b k : ℕ) : Type 0 where
@@ -35,26 +41,30 @@ pub record IsTable (ks : List ℕ) : Type 0 where
   pub cell : (b : ℕ) → b < 256 → Cell b (getD ks b 0)
 
 -- ---- the table that the program makes
--- the letters that have one number, and the number
-abbrev cells : List (List ℕ × ℕ)
+-- the letters that have one number, from 1 on
+abbrev cells : List (List ℕ)
 cells =
-    (ascii "*", 16) ∷
-    (ascii "EFILPQXZ", 22) ∷
-    (ascii "ACGRYMKWSBDHVNTU", 30) ∷
-    (ascii "acgrymkwsbdhvntu", 14) ∷
-    (ascii "JOefijlopqxz", 6) ∷
-    (ascii "0123456789", 5) ∷
+    ascii "*" ∷
+    ascii "EFILPQXZ" ∷
+    ascii "U" ∷
+    ascii "ACGRYMKWSBDHVN" ∷
+    ascii "T" ∷
+    ascii "t" ∷
+    ascii "acgrymkwsbdhvn" ∷
+    ascii "u" ∷
+    ascii "JOefijlopqxz" ∷
+    ascii "0123456789" ∷
     []
 
--- the number of the cell that has b, and 0 where none does
-abbrev numberIn : List (List ℕ × ℕ) → ℕ → ℕ
-numberIn [] b = 0
-numberIn (c ∷ cs) b = cond (among b (c .0)) (c .1) (numberIn cs b)
+-- the number of the first of the cells from k on that has b, and 0 where none does
+abbrev numberFrom : ℕ → List (List ℕ) → ℕ → ℕ
+numberFrom k [] b = 0
+numberFrom k (xs ∷ xss) b = cond (among b xs) k (numberFrom (suc k) xss b)
 
 -- the numbers of n bytes from b on
 abbrev numbers : ℕ → ℕ → List ℕ
 numbers zero b = []
-numbers (suc n) b = numberIn cells b ∷ numbers n (suc b)
+numbers (suc n) b = numberFrom 1 cells b ∷ numbers n (suc b)
 
 -- the numbers of all bytes
 abbrev pub classTable : List ℕ

@@ -2,10 +2,11 @@
 ghost use mathlib.Core.Path.{_≡_};
 ghost use Rattle.texts.specs.Runs.{run};
 ghost use Rattle.alphabet.specs.Classes.{member};
-ghost use Rattle.alphabet.specs.Cells.{IsTable, classTable, bit as bitOf};
+ghost use Rattle.alphabet.specs.Cells.{IsTable, classTable, within, lowest as lowestOf, highest as highestOf};
 
-// The bits of a byte's number are those of the classes that have the byte: 5 a digit, 6 a letter of no other class,
-// 14 a lower-case nucleotide letter, 16 `*`, 22 a residue letter that is no nucleotide letter, 30 an upper-case nucleotide letter.
+// 0 no letter, digit or `*`; 1 `*`; 2 a residue letter that is no nucleotide letter;
+// 3 U; 4 another upper-case nucleotide letter but T; 5 T; 6 t; 7 another lower-case nucleotide letter but u; 8 u;
+// 9 another letter; 10 a digit. So the numbers of each class are a range.
 const CLASS: [u8; 256] = [
     0,
     0,
@@ -49,87 +50,87 @@ const CLASS: [u8; 256] = [
     0,
     0,
     0,
-    16,
+    1,
     0,
     0,
     0,
     0,
     0,
+    10,
+    10,
+    10,
+    10,
+    10,
+    10,
+    10,
+    10,
+    10,
+    10,
+    0,
+    0,
+    0,
+    0,
+    0,
+    0,
+    0,
+    4,
+    4,
+    4,
+    4,
+    2,
+    2,
+    4,
+    4,
+    2,
+    9,
+    4,
+    2,
+    4,
+    4,
+    9,
+    2,
+    2,
+    4,
+    4,
     5,
-    5,
-    5,
-    5,
-    5,
-    5,
-    5,
-    5,
-    5,
-    5,
+    3,
+    4,
+    4,
+    2,
+    4,
+    2,
     0,
     0,
     0,
     0,
     0,
     0,
-    0,
-    30,
-    30,
-    30,
-    30,
-    22,
-    22,
-    30,
-    30,
-    22,
+    7,
+    7,
+    7,
+    7,
+    9,
+    9,
+    7,
+    7,
+    9,
+    9,
+    7,
+    9,
+    7,
+    7,
+    9,
+    9,
+    9,
+    7,
+    7,
     6,
-    30,
-    22,
-    30,
-    30,
-    6,
-    22,
-    22,
-    30,
-    30,
-    30,
-    30,
-    30,
-    30,
-    22,
-    30,
-    22,
-    0,
-    0,
-    0,
-    0,
-    0,
-    0,
-    14,
-    14,
-    14,
-    14,
-    6,
-    6,
-    14,
-    14,
-    6,
-    6,
-    14,
-    6,
-    14,
-    14,
-    6,
-    6,
-    6,
-    14,
-    14,
-    14,
-    14,
-    14,
-    14,
-    6,
-    14,
-    6,
+    8,
+    7,
+    7,
+    9,
+    7,
+    9,
     0,
     0,
     0,
@@ -273,16 +274,37 @@ pub enum Class {
     Residue,
 }
 
-fn bit(class: Class) -> u8
-    ensures { λ r. ⌜ r ≡ bitOf class ⌝ }
+fn lowest(class: Class) -> u8
+    ensures { λ r. ⌜ r ≡ lowestOf class ⌝ }
 {
     match class {
-        Class::Digit => 1,
+        Class::Digit => 10,
         Class::Letter => 2,
-        Class::Alphanumeric => 4,
-        Class::Nucleotide => 8,
-        Class::Residue => 16,
+        Class::Alphanumeric => 2,
+        Class::Nucleotide => 3,
+        Class::Residue => 1,
     }
+}
+
+fn highest(class: Class) -> u8
+    ensures { λ r. ⌜ r ≡ highestOf class ⌝ }
+{
+    match class {
+        Class::Digit => 10,
+        Class::Letter => 9,
+        Class::Alphanumeric => 10,
+        Class::Nucleotide => 8,
+        Class::Residue => 5,
+    }
+}
+
+fn within(low: u8, high: u8, cell: u8) -> bool
+    ensures { λ r. ⌜ r ≡ within low high cell ⌝ }
+{
+    if low <= cell {
+        return cell <= high;
+    }
+    false
 }
 
 // The table is written out where it is made: it is made once for a text, and lent.
@@ -296,7 +318,7 @@ pub fn is_in(table: &[u8; 256], class: Class, b: u8) -> bool
     requires { ⌜ IsTable (now table) ⌝ }
     ensures { λ r. ⌜ r ≡ member class b ⌝ }
 {
-    table[b as usize] & bit(class) != 0
+    within(lowest(class), highest(class), table[b as usize])
 }
 
 pub fn run_of(table: &[u8; 256], class: Class, s: &[u8]) -> usize

@@ -1,8 +1,8 @@
 use mathlib.Core.Path.{refl}
 use borrow.Author.Needs.{needs}
-use Rattle.alphabet.specs.Cells.{bit}
-use Rattle.alphabet.proofs.bit.Statement.{statement}
-use Rattle.alphabet.proofs.bit.Tie as tie
+use Rattle.alphabet.specs.Cells.{lowest}
+use Rattle.alphabet.proofs.lowest.Statement.{statement}
+use Rattle.alphabet.proofs.lowest.Tie as tie
 
 enum-told : tie.Need-enum-told
 enum-told c = search needs
@@ -20,27 +20,27 @@ enum-told-5 : tie.Need-enum-told-5
 enum-told-5 c = search needs
 
 returns : tie.Need-returns
-unfolding bit
-returns c = rw (c .enum-told .given .1, bit) refl
+unfolding lowest
+returns c = rw (c .enum-told .given .1, lowest) refl
 
 returns-2 : tie.Need-returns-2
-unfolding bit
-returns-2 c = rw (c .enum-told2 .given .1, bit) refl
+unfolding lowest
+returns-2 c = rw (c .enum-told2 .given .1, lowest) refl
 
 returns-3 : tie.Need-returns-3
-unfolding bit
-returns-3 c = rw (c .enum-told3 .given .1, bit) refl
+unfolding lowest
+returns-3 c = rw (c .enum-told3 .given .1, lowest) refl
 
 returns-4 : tie.Need-returns-4
-unfolding bit
-returns-4 c = rw (c .enum-told4 .given .1, bit) refl
+unfolding lowest
+returns-4 c = rw (c .enum-told4 .given .1, lowest) refl
 
 returns-5 : tie.Need-returns-5
-unfolding bit
-returns-5 c = rw (c .enum-told5 .given .1, bit) refl
+unfolding lowest
+returns-5 c = rw (c .enum-told5 .given .1, lowest) refl
 
-pub bit-spec : {M : Type 1} → statement M
-bit-spec =
+pub lowest-spec : {M : Type 1} → statement M
+lowest-spec =
     tie.close
     (tie.spec
     enum-told
