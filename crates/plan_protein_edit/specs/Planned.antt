@@ -39,7 +39,8 @@ use Rattle.plan_edits.specs.declared.EditPlan.the-variants.{Text}
 use Rattle.plan_edits.specs.PlanTexts.{letters-text, word-text, word-alone, either, pieces-text, edit-if, unsigned-digits}
 use Rattle.plan_protein_tests.specs.Tests.{isNegated, isTerminal, isOptionalPart, isSubst}
 use Rattle.plan_protein_tests.specs.Found.{Found, Found.yes, Found.no, found-if, found-map, terminal-found, itself, negated-found, subst-found}
-use Rattle.plan_protein_edit.specs.Plan.{spanOf, amountOf, jointOf, endPieces, isLength, isStop, isEarlier, planFs, planExt, planSubst, planProteinEdit}
+use Rattle.plan_protein_ends.specs.EndPlans.{spanOf, amountOf, jointOf, endPieces, isLength, isStop, isEarlier, planFs, planExt}
+use Rattle.plan_protein_edit.specs.Plan.{planSubst, planProteinEdit}
 
 map-next : {A B : Type 0} (f : A → B) (o u : Option A) → mapO f (orNext o u) ≡ orNext (mapO f o) (mapO f u)
 map-next f none u = refl

@@ -1,6 +1,6 @@
 use borrow.Author.Needs.{needs}
-use Rattle.plan_protein_edit.proofs.is_stop.Statement.{statement}
-use Rattle.plan_protein_edit.proofs.is_stop.Tie as tie
+use Rattle.plan_protein_ends.proofs.is_stop.Statement.{statement}
+use Rattle.plan_protein_ends.proofs.is_stop.Tie as tie
 
 enum-told : tie.Need-enum-told
 enum-told c = search needs

@@ -2,8 +2,8 @@ use mir.Syntax.{w32}
 use mir.Val.{SFits}
 use mir.Facts.{toZ-ofZ}
 use borrow.Author.Needs.{needs}
-use Rattle.plan_protein_edit.proofs.is_length.Statement.{statement}
-use Rattle.plan_protein_edit.proofs.is_length.Tie as tie
+use Rattle.plan_protein_ends.proofs.is_length.Statement.{statement}
+use Rattle.plan_protein_ends.proofs.is_length.Tie as tie
 
 enum-told : tie.Need-enum-told
 enum-told c = search needs

@@ -3,8 +3,8 @@ use mir.Val.{SFits}
 use mir.Facts.{toZ-ofZ}
 use Rattle.texts.specs.Tests.{both-fail, both-next}
 use borrow.Author.Needs.{needs}
-use Rattle.plan_protein_edit.proofs.is_earlier.Statement.{statement}
-use Rattle.plan_protein_edit.proofs.is_earlier.Tie as tie
+use Rattle.plan_protein_ends.proofs.is_earlier.Statement.{statement}
+use Rattle.plan_protein_ends.proofs.is_earlier.Tie as tie
 
 enum-told : tie.Need-enum-told
 enum-told c = search needs

@@ -1,9 +1,9 @@
 use mathlib.Core.Path.{sym, _∙_}
 use borrow.Author.Tests.{not-true, not-false}
-use Rattle.plan_protein_edit.specs.Plan.{planExt}
+use Rattle.plan_protein_ends.specs.EndPlans.{planExt}
 use borrow.Author.Needs.{needs}
-use Rattle.plan_protein_edit.proofs.plan_ext.Statement.{statement}
-use Rattle.plan_protein_edit.proofs.plan_ext.Tie as tie
+use Rattle.plan_protein_ends.proofs.plan_ext.Statement.{statement}
+use Rattle.plan_protein_ends.proofs.plan_ext.Tie as tie
 
 is-optional-requires : tie.Need-is-optional-requires
 is-optional-requires c κs = search needs

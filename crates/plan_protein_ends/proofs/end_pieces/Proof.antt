@@ -1,6 +1,6 @@
 use borrow.Author.Needs.{needs}
-use Rattle.plan_protein_edit.proofs.end_pieces.Statement.{statement}
-use Rattle.plan_protein_edit.proofs.end_pieces.Tie as tie
+use Rattle.plan_protein_ends.proofs.end_pieces.Statement.{statement}
+use Rattle.plan_protein_ends.proofs.end_pieces.Tie as tie
 
 span-of-requires : tie.Need-span-of-requires
 span-of-requires c κs = search needs

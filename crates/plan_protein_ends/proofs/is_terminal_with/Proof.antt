@@ -2,8 +2,8 @@ use mathlib.Core.Path.{ap, _∙_}
 use Rattle.texts.specs.Tests.{both-fail, both-next}
 use Rattle.plan_protein_tests.specs.Tests.{isTerminal}
 use borrow.Author.Needs.{needs}
-use Rattle.plan_protein_edit.proofs.is_terminal_with.Statement.{statement}
-use Rattle.plan_protein_edit.proofs.is_terminal_with.Tie as tie
+use Rattle.plan_protein_ends.proofs.is_terminal_with.Statement.{statement}
+use Rattle.plan_protein_ends.proofs.is_terminal_with.Tie as tie
 
 part-of-requires : tie.Need-part-of-requires
 part-of-requires c κs = search needs
