@@ -33,7 +33,7 @@ fn na_edit_at(table: &[u8; 256], s: &[u8], at: usize) -> NaEditRead
     let NaEditRead::Nothing = second else {
         return second;
     };
-    let third = read_na_forms::del(table, s, at);
+    let third = read_na_del::del(table, s, at);
     let NaEditRead::Nothing = third else {
         return third;
     };

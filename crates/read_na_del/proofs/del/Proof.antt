@@ -5,10 +5,10 @@ use Rattle.texts.specs.Ascii.{ascii}
 use Rattle.texts.specs.Words.{starts}
 use Rattle.alphabet.specs.Letters.{nucleotide}
 use Rattle.lang_na_edits.specs.Parse.{afterDel, parseDel}
 use Rattle.read_na_forms.proofs.NaFormCases.{word-long, word-room, word-found, word-nothing}
 use borrow.Author.Needs.{needs}
-use Rattle.read_na_forms.proofs.del.Statement.{statement}
-use Rattle.read_na_forms.proofs.del.Tie as tie
+use Rattle.read_na_del.proofs.del.Statement.{statement}
+use Rattle.read_na_del.proofs.del.Tie as tie
 
 is-word : (c : tie.Then1) → starts (ascii "del") (c .before .before .before .before .args .s .now) ≡ true
 is-word c = sym (c .before .begins .ensures) ∙ c .if1 .taken

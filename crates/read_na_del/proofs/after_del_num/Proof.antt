@@ -10,11 +10,11 @@ use Rattle.record.specs.declared.NaEdit.the-variants.{DelNum}
 use Rattle.grammar.specs.NucleotideEdits.{NaEditTree.delNum}
 use Rattle.lang_na_edits.specs.Parse.{inserted}
 use Rattle.read_scan.specs.Reading.{number-run, number-le}
 use Rattle.read_na_forms.proofs.Found.{found-number, found-num-ins}
 use Rattle.read_na_forms.proofs.NaFormCases.{inserted-behind, inserted-within, del-num, del-num-ins}
 use borrow.Author.Needs.{needs}
-use Rattle.read_na_forms.proofs.after_del_num.Statement.{statement}
-use Rattle.read_na_forms.proofs.after_del_num.Tie as tie
+use Rattle.read_na_del.proofs.after_del_num.Statement.{statement}
+use Rattle.read_na_del.proofs.after_del_num.Tie as tie
 
 n-le : (c : tie.Start) → c .args .n .len ≤ length (c .args .s .now)
 n-le c = number-le _ _ _ (c .pre .1)

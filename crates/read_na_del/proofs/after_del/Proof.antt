@@ -11,11 +11,11 @@ use Rattle.record.specs.declared.NaEdit.the-variants.{DelRef}
 use Rattle.grammar.specs.NucleotideEdits.{NaEditTree.del}
 use Rattle.lang_na_edits.specs.Parse.{inserted}
 use Rattle.read_scan.specs.Reading.{number-len}
 use Rattle.read_na_forms.proofs.Found.{found-word, found-del-ins}
 use Rattle.read_na_forms.proofs.NaFormCases.{counted-le, inserted-behind, inserted-within, del-ins, del-digits, del-letters}
 use borrow.Author.Needs.{needs}
-use Rattle.read_na_forms.proofs.after_del.Statement.{statement}
-use Rattle.read_na_forms.proofs.after_del.Tie as tie
+use Rattle.read_na_del.proofs.after_del.Statement.{statement}
+use Rattle.read_na_del.proofs.after_del.Tie as tie
 
 m-le : (c : tie.After-run-of) → c .run-of .result ≤ length (c .before .before .args .s .now)
 unfolding member
