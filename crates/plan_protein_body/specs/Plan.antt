@@ -2,30 +2,19 @@
 use Prim.Native.Nat.{ℕ}
 use Prim.Native.Char.{code}
 use mathlib.Core.List.{List}
-use mathlib.Core.Bool.{Bool, true, false, cond, not, _&&_, _||_}
-use lib.IntN.{pos}
-use Rattle.texts.specs.Ascii.{ascii}
-use Rattle.texts.specs.Words.{same}
-use Rattle.record.specs.declared.Span.{Span}
+use mathlib.Core.Bool.{Bool, true, false, cond, not, _||_}
 use Rattle.record.specs.declared.Kind.the-variants.{Prot}
 use Rattle.record.specs.declared.ProteinEdit.{ProteinEdit}
 use Rattle.record.specs.declared.MuProteinEdit.{MuProteinEdit}
 use Rattle.record.specs.declared.MuProteinEdit.the-variants as MuPr
 use Rattle.record.specs.declared.ProtLocEdit.{ProtLocEdit}
 use Rattle.record.specs.declared.ProtLocEdit.the-variants as Bodies
-use Rattle.grammar.specs.Spans.{part}
-use Rattle.grammar.specs.Contents.{proteinEditContent}
-use Rattle.lang_locations.specs.Equal.{eqℤ}
-use Rattle.lang_canon.specs.ProteinBodyCanon.{isUnknown}
-use Rattle.any_location.specs.declared.Position.{Position}
 use Rattle.any_location.specs.declared.Location.{Location}
 use Rattle.any_location.specs.OfRecord.{anyLocation}
 use Rattle.emit_location.specs.Texts.{noEnd}
 use Rattle.emit_word.specs.declared.Word.{Word}
 use Rattle.emit_word.specs.declared.Word.the-variants.{Equal, Question, Met1, NoProtein, NoProteinUncertain, NoChangeUncertain}
-use Rattle.emit_piece.specs.declared.OneByte.the-variants.{Nothing, Byte}
-use Rattle.emit_piece.specs.declared.Amount.the-variants.{Absent, Count}
-use Rattle.emit_location.specs.declared.PositionPieces.{PositionPieces}
+use Rattle.emit_piece.specs.declared.OneByte.the-variants.{Nothing}
 use Rattle.emit_location.specs.declared.LocationPieces.{LocationPieces}
 use Rattle.emit_edit.specs.declared.EditPieces.{EditPieces}
 use Rattle.plan_edits.specs.EditPlans.{wordAlone}
@@ -36,15 +25,9 @@ use Rattle.plan_location.specs.declared.LocationPlan.{LocationPlan}
 use Rattle.plan_location.specs.declared.LocationPlan.the-variants as Locations
 use Rattle.plan_location.specs.Plan.{bracketMark, planLocation}
 use Rattle.plan_protein_edit.specs.Plan.{planProteinEdit}
+use Rattle.plan_met1.specs.Met1.{loneLocation, met01Location, isBarred}
 use Rattle.plan_na_body.specs.declared.BodyPlan.{BodyPlan}
 use Rattle.plan_na_body.specs.declared.BodyPlan.the-variants.{NoText, Text}
-
--- ---- places
-abbrev pub loneLocation : PositionPieces → LocationPieces
-loneLocation e = record { opening = Nothing; start = e; joint = Nothing; end = noEnd; closing = Nothing }
-
-abbrev pub met01Place : Span → LocationPieces
-met01Place aa = loneLocation (record { residue = aa; mark = Byte (code "0"); number = Count 1; sign = Nothing; offset = Absent })
 
 -- ---- location and edit, in one pair of brackets where both are uncertain
 abbrev pub bodyOf : Bool → Bool → LocationPieces → EditPieces → BodyPieces
@@ -60,29 +43,15 @@ togetherPlan isLocated isCertain (Locations.Text p) (Edits.Text pieces) = Text (
 togetherPlan isLocated isCertain (Locations.Text p) Edits.NoText = NoText
 togetherPlan isLocated isCertain Locations.NoText pieces = NoText
 
--- both certain, or both uncertain
-abbrev pub isAlike : Bool → Bool → Bool
-isAlike isLocated isCertain = cond isLocated isCertain (not isCertain)
-
 -- a word and nothing else
 abbrev pub wordBody : Word → BodyPlan
 wordBody word = Text (record { location = loneLocation noEnd; opening = Nothing; edit = wordAlone word; closing = Nothing })
 
 module _ (s : List ℕ) where
-  -- ---- the Met-1 `?` record
-  abbrev pub isMetOne : Position → Bool
-  isMetOne p = same (part s (p .aa)) (ascii "Met") && eqℤ (p .number) (pos 1)
-
-  abbrev pub isUnknownEdit : ProteinEdit → Bool
-  isUnknownEdit e = isUnknown (proteinEditContent s e)
-
-  unfoldable pub isBarred : Location → Bool → ProteinEdit → Bool
-  isBarred l isCertain e = isAlike (l .certain) isCertain && (isMetOne (l .start) && (isMetOne (l .end) && isUnknownEdit e))
-
   unfoldable pub planOrdinary : Location → Bool → ProteinEdit → BodyPlan
   planOrdinary l isCertain e =
-      cond (isBarred l isCertain e)
-      (Text (bodyOf (l .certain) isCertain (met01Place (l .start .aa)) (wordAlone Question)))
+      cond (isBarred s l isCertain e)
+      (Text (bodyOf (l .certain) isCertain (met01Location (l .start .aa)) (wordAlone Question)))
       (togetherPlan (l .certain) isCertain (planLocation s Prot l) (planProteinEdit s e))
 
   abbrev pub planMuProtein : Location → MuProteinEdit → BodyPlan

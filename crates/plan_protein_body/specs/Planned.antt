@@ -56,7 +56,8 @@ use Rattle.plan_location.specs.Planned.{muOf}
 use Rattle.plan_protein_edit.specs.Plan.{planProteinEdit}
 use Rattle.plan_protein_edit.specs.Planned as E
 use Rattle.plan_na_body.specs.Planned.{planText}
-use Rattle.plan_protein_body.specs.Plan.{met01Place, bodyOf, togetherPlan, isAlike, wordBody, isMetOne, isUnknownEdit, isBarred, planOrdinary, planProteinBody}
+use Rattle.plan_met1.specs.Met1.{met01Location, isAlike, isMetOne, isUnknownEdit, isBarred}
+use Rattle.plan_protein_body.specs.Plan.{bodyOf, togetherPlan, wordBody, planOrdinary, planProteinBody}
 
 -- ---- lists: the parts of a body one behind the other
 flat : (x y z r : List ℕ) → (x ++ (y ++ (z ++ []))) ++ (r ++ []) ≡ (x ++ (y ++ z)) ++ r
@@ -147,7 +148,7 @@ module _ (s : List ℕ) where
   unfolding isBarred
   barred-met l t e = barred-is (l .certain) t (endsOf l) (proteinEditContent s e)
 
-  met01-text : (aa : Span) → part s aa ≡ ascii "Met" → bareText (met01Place aa) ≡ printEnds Prot met01
+  met01-text : (aa : Span) → part s aa ≡ ascii "Met" → bareText (met01Location aa) ≡ printEnds Prot met01
   unfolding positionText decUpTo
   met01-text aa e = rw (no-end s, e)
 
@@ -172,7 +173,7 @@ module _ (s : List ℕ) where
 
       go : (b : Bool) → isBarred s l t e ≡ b → planText s (planOrdinary s l t e) ≡ mapO printProteinBody (canonOrdinary (muOf (l .certain) i) (muOf t v))
       go true h = rw (h, planOrdinary, barred-met l t e ∙ h)
-          (ap some (body-text (l .certain) t (met01Place (l .start .aa)) (wordAlone Question) i v met01 substUnknown (met01-text (l .start .aa) (met-residue l t e h)) (word-alone s Question)))
+          (ap some (body-text (l .certain) t (met01Location (l .start .aa)) (wordAlone Question) i v met01 substUnknown (met01-text (l .start .aa) (met-residue l t e h)) (word-alone s Question)))
       go false h = rw (h, planOrdinary, barred-met l t e ∙ h, inner-is (l .certain) i, inner-is t v)
           (together-text (l .certain) t i v (planLocation s Prot l) (planProteinEdit s e) (endsCanon Prot .canon i) (proteinEditCanon .canon v) (bare-planned l) (E.planned s e))
 

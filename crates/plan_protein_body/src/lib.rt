@@ -1,11 +1,8 @@
 // What is to be written for a protein body: location and edit, in one pair of brackets where both are uncertain; or a word alone.
 use any_location::Location;
-use any_location::Position;
 use emit_draft::BodyPieces;
 use emit_edit::EditPieces;
 use emit_location::LocationPieces;
-use emit_location::PositionPieces;
-use emit_piece::Amount;
 use emit_piece::OneByte;
 use emit_word::Word;
 use plan_edits::EditPlan;
@@ -15,103 +12,10 @@ use record::Kind;
 use record::MuProteinEdit;
 use record::ProtLocEdit;
 use record::ProteinEdit;
-use record::Span;
 ghost use mathlib.Core.Path.{_≡_};
 ghost use mathlib.Core.Bool.{_||_, not};
-ghost use Rattle.texts.specs.Words.{same};
 ghost use Rattle.alphabet.specs.Cells.{IsTable};
-ghost use Rattle.grammar.specs.Spans.{part};
-ghost use Rattle.plan_protein_body.specs.Plan.{isMetOne, isUnknownEdit, isAlike, isBarred, loneLocation, met01Place, bodyOf, togetherPlan, planOrdinary, planMuProtein, wordBody, planProteinBody};
-
-// ---- the Met-1 `?` record: its composed text would be `Met1?` or `(Met1?)`, which read as another
-
-// The part is this word.
-fn spells(source: &[u8], p: Span, word: &[u8]) -> bool
-    ensures { λ r. ⌜ r ≡ same (part (now (source .entry)) p) (now (word .entry)) ⌝ }
-{
-    words::same_bytes(parts::part_of(source, p), word)
-}
-
-fn is_met_one(source: &[u8], p: Position) -> bool
-    ensures { λ r. ⌜ r ≡ isMetOne (now (source .entry)) p ⌝ }
-{
-    let aa = p.aa;
-    if spells(source, aa, b"Met") {
-        return any_location_same::same_number(p.number, 1);
-    }
-    false
-}
-
-fn is_unknown(source: &[u8], e: ProteinEdit) -> bool
-    ensures { λ r. ⌜ r ≡ isUnknownEdit (now (source .entry)) e ⌝ }
-{
-    match e {
-        ProteinEdit::Fs(_, _, _) => false,
-        ProteinEdit::Ext(_, _, _) => false,
-        ProteinEdit::Subst(p) => spells(source, p, b"?"),
-        ProteinEdit::DelIns(_) => false,
-        ProteinEdit::Ins(_) => false,
-        ProteinEdit::Del => false,
-        ProteinEdit::Dup => false,
-        ProteinEdit::Ident => false,
-    }
-}
-
-// Both certain, or both uncertain.
-fn is_alike(located: bool, certain: bool) -> bool
-    ensures { λ r. ⌜ r ≡ isAlike located certain ⌝ }
-{
-    if located {
-        return certain;
-    }
-    !certain
-}
-
-fn is_barred(source: &[u8], l: Location, certain: bool, e: ProteinEdit) -> bool
-    ensures { λ r. ⌜ r ≡ isBarred (now (source .entry)) l certain e ⌝ }
-{
-    let start = l.start;
-    let end = l.end;
-    if !is_alike(l.certain, certain) {
-        return false;
-    }
-    if !is_met_one(source, start) {
-        return false;
-    }
-    if !is_met_one(source, end) {
-        return false;
-    }
-    is_unknown(source, e)
-}
-
-// ---- places
-
-fn lone_location(start: PositionPieces) -> LocationPieces
-    ensures { λ r. ⌜ r ≡ loneLocation start ⌝ }
-{
-    LocationPieces {
-        opening: OneByte::Nothing,
-        start,
-        joint: OneByte::Nothing,
-        end: plan_location::NO_END,
-        closing: OneByte::Nothing,
-    }
-}
-
-// `Met01`
-fn met01(aa: Span) -> LocationPieces
-    ensures { λ r. ⌜ r ≡ met01Place aa ⌝ }
-{
-    lone_location(PositionPieces {
-        residue: aa,
-        mark: OneByte::Byte(b'0'),
-        number: Amount::Count(1),
-        sign: OneByte::Nothing,
-        offset: Amount::Absent,
-    })
-}
-
-// ---- location and edit
+ghost use Rattle.plan_protein_body.specs.Plan.{bodyOf, togetherPlan, planOrdinary, planMuProtein, wordBody, planProteinBody};
 
 fn or_not(a: bool, b: bool) -> bool
     ensures { λ r. ⌜ r ≡ a || not b ⌝ }
@@ -165,13 +69,13 @@ fn plan_ordinary(
     requires { ⌜ IsTable (now table) ⌝ }
     ensures { λ r. ⌜ r ≡ planOrdinary (now (source .entry)) l certain e ⌝ }
 {
-    if is_barred(source, l, certain, e) {
+    if plan_met1::is_barred(source, l, certain, e) {
         let start = l.start;
         let aa = start.aa;
         return BodyPlan::Text(body_of(
             l.certain,
             certain,
-            met01(aa),
+            plan_met1::met01(aa),
             plan_edits::word_alone(Word::Question),
         ));
     }
@@ -193,13 +97,11 @@ fn plan_mu(table: &[u8; 256], source: &[u8], l: Location, e: MuProteinEdit) -> B
     }
 }
 
-// ---- bodies
-
 fn word_body(word: Word) -> BodyPlan
     ensures { λ r. ⌜ r ≡ wordBody word ⌝ }
 {
     BodyPlan::Text(BodyPieces {
-        location: lone_location(plan_location::NO_END),
+        location: plan_met1::lone_location(plan_location::NO_END),
         opening: OneByte::Nothing,
         edit: plan_edits::word_alone(word),
         closing: OneByte::Nothing,

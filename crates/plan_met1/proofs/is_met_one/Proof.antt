@@ -3,8 +3,8 @@ use mir.Facts.{toZ-ofZ}
 use mir.Syntax.{w32}
 use mir.Val.{SFits}
 use borrow.Author.Needs.{needs}
-use Rattle.plan_protein_body.proofs.is_met_one.Statement.{statement}
-use Rattle.plan_protein_body.proofs.is_met_one.Tie as tie
+use Rattle.plan_met1.proofs.is_met_one.Statement.{statement}
+use Rattle.plan_met1.proofs.is_met_one.Tie as tie
 
 slice-aggregate-spells : tie.Need-slice-aggregate-spells
 slice-aggregate-spells c = search needs

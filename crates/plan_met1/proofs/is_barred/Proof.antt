@@ -1,9 +1,9 @@
 use mathlib.Core.Path.{sym, _∙_}
 use borrow.Author.Tests.{not-true, not-false}
-use Rattle.plan_protein_body.specs.Plan.{isBarred}
+use Rattle.plan_met1.specs.Met1.{isBarred}
 use borrow.Author.Needs.{needs}
-use Rattle.plan_protein_body.proofs.is_barred.Statement.{statement}
-use Rattle.plan_protein_body.proofs.is_barred.Tie as tie
+use Rattle.plan_met1.proofs.is_barred.Statement.{statement}
+use Rattle.plan_met1.proofs.is_barred.Tie as tie
 
 is-alike-requires : tie.Need-is-alike-requires
 is-alike-requires c κs = search needs

@@ -1,6 +1,6 @@
 use borrow.Author.Needs.{needs}
-use Rattle.plan_protein_body.proofs.is_unknown.Statement.{statement}
-use Rattle.plan_protein_body.proofs.is_unknown.Tie as tie
+use Rattle.plan_met1.proofs.is_unknown.Statement.{statement}
+use Rattle.plan_met1.proofs.is_unknown.Tie as tie
 
 enum-told : tie.Need-enum-told
 enum-told c = search needs

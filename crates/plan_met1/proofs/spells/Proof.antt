@@ -1,6 +1,6 @@
 use borrow.Author.Needs.{needs}
-use Rattle.plan_protein_body.proofs.spells.Statement.{statement}
-use Rattle.plan_protein_body.proofs.spells.Tie as tie
+use Rattle.plan_met1.proofs.spells.Statement.{statement}
+use Rattle.plan_met1.proofs.spells.Tie as tie
 
 part-of-requires : tie.Need-part-of-requires
 part-of-requires c κs = search needs
