@@ -1,5 +1,5 @@
 #!/usr/bin/env bash
-# Builds the library for C, target/c/libsaltwhistle.a, proving it again, and the example over it, target/c/example.
+# Builds the library for C, target/c/libsaltwhistle.a, proving it again, and the example over it, target/c/example. Both are for x86-64.
 set -euo pipefail
 cd "$(dirname "$0")/.."
 for tool in rt gcc; do
@@ -11,5 +11,9 @@ done
 rt staticlib saltwhistle_c
 mkdir -p target/c
 cp target/staticlib/libsaltwhistle_c.a target/c/libsaltwhistle.a
+if [ "$(uname -m)" != x86_64 ]; then
+  echo "built target/c/libsaltwhistle.a; the example links it, and needs an x86-64 machine"
+  exit
+fi
 gcc -std=c11 -Wall -Wextra -Werror -O2 -Ic c/example.c target/c/libsaltwhistle.a -o target/c/example
 echo "built target/c/libsaltwhistle.a and target/c/example"

@@ -16,9 +16,10 @@ if [ ! -x "$records" ]; then
   exit 2
 fi
 
+. "$folder/../runner.sh"
 work=$(mktemp -d)
 trap 'rm -rf "$work"' EXIT
 "$folder/texts.sh" "$@" >"$work/texts"
-"$records" <"$work/texts" >"$work/ours"
+"${runner[@]}" "$records" <"$work/texts" >"$work/ours"
 echo "$*"
 "$compare" "$work/texts" "$work/ours"

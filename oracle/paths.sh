@@ -12,11 +12,12 @@ for program in records saltwhistle; do
   fi
 done
 
+. "$folder/../runner.sh"
 work=$(mktemp -d)
 trap 'rm -rf "$work"' EXIT
 "$folder/texts.sh" "$@" >"$work/texts"
 # A refused line is the refusal alone.
-"$bin/records" <"$work/texts" | cut -f 2 >"$work/planned"
-"$bin/saltwhistle" <"$work/texts" >"$work/written"
+"${runner[@]}" "$bin/records" <"$work/texts" | cut -f 2 >"$work/planned"
+"${runner[@]}" "$bin/saltwhistle" <"$work/texts" >"$work/written"
 cmp "$work/planned" "$work/written"
 echo "$(wc -l <"$work/written") answers, $(grep -cv '^! ' "$work/written") texts, $(paste -d '\n' "$work/texts" "$work/written" | awk 'NR % 2 { t = $0; next } t == $0' | wc -l) of them as they came: the same on both paths"
