@@ -1,5 +1,5 @@
 // Measuring a record: how many bases or residues its location spans.
-use measure_body::BodyWidth;
+use measure_location::LocationWidth;
 use plan_text::TextPlan;
 use record::HgvsVariant;
 use record::Refusal;
@@ -13,18 +13,12 @@ ghost use Rattle.promise.specs.Width.{Measures};
 pub fn width(source: &[u8], v: HgvsVariant) -> WidthAnswer
     ensures { λ r. ⌜ Measures allLetters (now (source .entry)) v (widthOutcome r) ⌝ }
 {
-    if 4096 < source.len() {
-        return WidthAnswer::Refused(Refusal::TooLong);
+    if let TextPlan::Refused(why) = plan_record::plan_record(source, Wording::Shortest, v) {
+        return WidthAnswer::Refused(why);
     }
-    if !record_inside::spans_inside(source.len(), v) {
-        return WidthAnswer::Refused(Refusal::BadSpan);
-    }
-    let TextPlan::Text(_) = plan_text::plan_text(source, Wording::Shortest, v) else {
-        return WidthAnswer::Refused(Refusal::NoText);
-    };
     let body = v.body;
     match measure_body::body_width(body) {
-        BodyWidth::NoWidth => WidthAnswer::Refused(Refusal::NoWidth),
-        BodyWidth::Width(n) => WidthAnswer::Width(n),
+        LocationWidth::NoWidth => WidthAnswer::Refused(Refusal::NoWidth),
+        LocationWidth::Width(n) => WidthAnswer::Width(n),
     }
 }

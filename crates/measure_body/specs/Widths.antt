@@ -1,10 +1,7 @@
--- The width of a location of any kind, and that it is the width of the record's location.
+-- The width of a record's location is that of its location of any kind.
 use Prim.Native.Nat.{ℕ}
-use mathlib.Core.Path.{_≡_, refl, sym, ap, _∙_}
-use mathlib.Core.Bool.{cond}
-use mathlib.Core.Option.{Option, none, some}
-use lib.IntN.{ℤ}
-use Rattle.texts.specs.Tests.{none-some}
+use mathlib.Core.Path.{_≡_, refl, ap, _∙_}
+use mathlib.Core.Option.{Option}
 use Rattle.record.specs.declared.Kind.{Kind}
 use Rattle.record.specs.declared.Kind.the-variants.{Cds, Genome, Mt, Tx, Prot, Rna}
 use Rattle.record.specs.declared.Body.{Body}
@@ -20,44 +17,13 @@ use Rattle.record.specs.declared.MuTxInterval.the-variants as MuTx
 use Rattle.record.specs.declared.MuRnaInterval.the-variants as MuRna
 use Rattle.record.specs.declared.MuProtInterval.the-variants as MuProt
 use Rattle.grammar.specs.Records.{MuIntervalR}
-use Rattle.promise.specs.Width.{between, unshifted, anchored, genomeNumber, mtNumber, muCdsWidth, muGenomeWidth, muMtWidth, muTxWidth, muRnaWidth, muProtWidth, protWidth, bodyWidth}
-use Rattle.any_location.specs.declared.Position.{Position}
+use Rattle.promise.specs.Width.{between, genomeNumber, mtNumber, muCdsWidth, muGenomeWidth, muMtWidth, muTxWidth, muRnaWidth, muProtWidth, protWidth, bodyWidth}
 use Rattle.any_location.specs.declared.Location.{Location}
 use Rattle.any_body.specs.declared.AnyBody.{AnyBody}
 use Rattle.any_body.specs.declared.AnyBody.the-variants.{Nucleotide, Protein}
 use Rattle.any_location.specs.OfRecord.{anyPosition, anyLocation}
 use Rattle.any_body.specs.AnyBodies.{anyBody}
-use Rattle.measure_body.specs.declared.BodyWidth.{BodyWidth}
-use Rattle.measure_body.specs.declared.BodyWidth.the-variants.{NoWidth, Width}
-use Rattle.measure_body.specs.declared.EndNumber.{EndNumber}
-use Rattle.measure_body.specs.declared.EndNumber.the-variants.{NoNumber, Number}
-
-abbrev pub widthGiven : BodyWidth → Option ℕ
-widthGiven NoWidth = none
-widthGiven (Width n) = some n
-
--- so that what is given determines the answer
-pub one-width : (a b : BodyWidth) → widthGiven a ≡ widthGiven b → a ≡ b
-one-width NoWidth NoWidth e = refl
-one-width NoWidth (Width n) e = absurd (none-some e)
-one-width (Width m) NoWidth e = absurd (none-some (sym e))
-one-width (Width m) (Width n) e = let i : m ≡ n = cc in ap Width i
-
-abbrev pub numberGiven : EndNumber → Option ℤ
-numberGiven NoNumber = none
-numberGiven (Number z) = some z
-
--- the number of an end that is known and has no offset
-abbrev pub endNumber : Position → Option ℤ
-endNumber p = cond (p .unknown) none (unshifted (p .number) (p .offset))
-
-abbrev widthFromTo : Position → Position → Option ℕ
-widthFromTo p q = anchored (p .«cds_from») (q .«cds_from») (between (endNumber p) (endNumber q))
-
-abbrev pub locationWidth : Location → Option ℕ
-locationWidth l = widthFromTo (l .start) (l .end)
-
--- ---- the record's
+use Rattle.measure_location.specs.LocationWidths.{widthFromTo, locationWidth}
 
 abbrev pub kindWidth : (k : Kind) → MuIntervalR k → Option ℕ
 kindWidth Cds l = muCdsWidth l

@@ -1,1 +1,2 @@
 pub mod HeaderText
+pub mod Headings

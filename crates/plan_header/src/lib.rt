@@ -1,6 +1,9 @@
-// Which headers have a text: the accession's bytes are one as a whole, and the gene's, where there is one, are letters or digits.
+// Which headers have a text, and what is to be written for one: the accession's bytes are one as a whole, and the gene's, where there is one, are letters or digits.
 use alphabet::Class;
+use emit_draft::Heading;
+use emit_piece::OneByte;
 use record::Header;
+use record::Kind;
 use record::Part;
 ghost use mathlib.Core.Path.{_≡_};
 ghost use Rattle.alphabet.specs.Cells.{IsTable};
@@ -10,6 +13,7 @@ ghost use Rattle.lang.specs.Whole.{whole};
 ghost use Rattle.lang_headers.specs.Sound.{accessionLang};
 ghost use Rattle.lang_headers.specs.Canonical.{isGene, canonHeader};
 ghost use Rattle.plan_header.specs.HeaderText.{isSome, isName};
+ghost use Rattle.plan_header.specs.Headings.{headingOf};
 
 // Is the whole text an accession?
 fn is_accession(table: &[u8; 256], s: &[u8]) -> bool
@@ -53,4 +57,28 @@ pub fn header_has_text(table: &[u8; 256], source: &[u8], h: Header) -> bool
         return is_accession(table, parts::part_of(source, accession));
     }
     false
+}
+
+// The gene in brackets, where there is one.
+pub fn heading(h: Header, kind: Kind) -> Heading
+    ensures { λ r. ⌜ r ≡ headingOf h kind ⌝ }
+{
+    let accession = h.accession;
+    let gene_symbol = h.gene_symbol;
+    match gene_symbol {
+        Part::Absent => Heading {
+            accession,
+            opening: OneByte::Nothing,
+            gene: plan_edits::NO_SPAN,
+            closing: OneByte::Nothing,
+            kind,
+        },
+        Part::Present(gene) => Heading {
+            accession,
+            opening: OneByte::Byte(b'('),
+            gene,
+            closing: OneByte::Byte(b')'),
+            kind,
+        },
+    }
 }

@@ -16,6 +16,8 @@ use Rattle.record.specs.declared.Body as Declared
 use Rattle.record.specs.declared.Body.the-variants as Bo
 use Rattle.record.specs.declared.ProtLocEdit.{ProtLocEdit}
 use Rattle.record.specs.declared.HgvsVariant.{HgvsVariant}
+use Rattle.record.specs.declared.Refusal.{Refusal}
+use Rattle.record.specs.declared.Refusal.the-variants.{NoText}
 use Rattle.record.specs.declared.Wording.{Wording}
 use Rattle.record.specs.declared.Wording.the-variants.{Shortest, NoRef}
 use Rattle.grammar.specs.Spans.{part, optionalPart}
@@ -30,6 +32,7 @@ use Rattle.lang_na_edits.specs.Alphabet.{alphabets}
 use Rattle.lang_headers.specs.Canonical.{canonHeader}
 use Rattle.promise.specs.Outcome.{limit}
 use Rattle.promise.specs.Writing.{Sound, Unsound}
+use Rattle.any_body.specs.AnyBodies.{anyBody}
 use Rattle.lang_canon.specs.ProteinBodyCanon.{canonProteinBody}
 use Rattle.lang_canon.specs.TextCanon.{text-some}
 use Rattle.lang_canon.specs.Wording.{Wanted, wordedBody, wordedText, text-parts, worded-some, worded-none}
@@ -38,6 +41,7 @@ use Rattle.emit_draft.specs.declared.Heading.{Heading}
 use Rattle.emit_draft.specs.declared.Draft.{Draft}
 use Rattle.emit_draft.specs.Texts.{headingText, bodyText, draftText}
 use Rattle.plan_header.specs.HeaderText.{isSome, header-text}
+use Rattle.plan_header.specs.Headings.{headingWith, headingOf}
 use Rattle.plan_na_body.specs.declared.BodyPlan.{BodyPlan}
 use Rattle.plan_na_body.specs.declared.BodyPlan.the-variants as Bodies
 use Rattle.plan_na_body.specs.Planned as BodyPlans
@@ -45,8 +49,24 @@ use Rattle.plan_na_body.specs.Planned.{planned-na}
 use Rattle.plan_protein_body.specs.Plan.{planProteinBody}
 use Rattle.plan_protein_body.specs.Planned.{planned-protein}
 use Rattle.plan_text.specs.declared.TextPlan.{TextPlan}
-use Rattle.plan_text.specs.declared.TextPlan.the-variants.{NoText, Text as Planned}
-use Rattle.plan_text.specs.Plan.{kindOf, headingWith, headingOf, draftedPlan, planBody, textPlan}
+use Rattle.plan_text.specs.declared.TextPlan.the-variants.{Refused, Text as Planned}
+use Rattle.plan_text.specs.Plan.{anyKind, draftedPlan, planAny, textPlan}
+
+abbrev kindOf : Declared.Body → Kind
+kindOf (Bo.Cds b) = Cds
+kindOf (Bo.Genome b) = Genome
+kindOf (Bo.Mt b) = Mt
+kindOf (Bo.Tx b) = Tx
+kindOf (Bo.Prot b) = Prot
+kindOf (Bo.Rna b) = Rna
+
+kind-is : (b : Declared.Body) → anyKind (anyBody b) ≡ kindOf b
+kind-is (Bo.Cds b) = refl
+kind-is (Bo.Genome b) = refl
+kind-is (Bo.Mt b) = refl
+kind-is (Bo.Tx b) = refl
+kind-is (Bo.Prot b) = refl
+kind-is (Bo.Rna b) = refl
 
 unprinted : (o : Option Text) → none ≡ mapO print o → o ≡ none
 unprinted none e = refl
@@ -84,7 +104,7 @@ module _ (s : List ℕ) where
   protein-worded NoRef b = rw (if-same (canonProteinBody (protBodyContent s b))) (planned-protein s b)
 
   module _ (w : Wording) where
-    planned-body : (b : Declared.Body) → BodyPlans.planText s (planBody s w b) ≡ mapO (printBody (kindOf b)) (wordedBody allLetters alphabets w (kindOf b) (bodyValue b))
+    planned-body : (b : Declared.Body) → BodyPlans.planText s (planAny s w (anyBody b)) ≡ mapO (printBody (kindOf b)) (wordedBody allLetters alphabets w (kindOf b) (bodyValue b))
     planned-body (Bo.Cds b) = planned-na s w Cds (b .loc) (b .edit)
     planned-body (Bo.Genome b) = planned-na s w Genome (b .loc) (b .edit)
     planned-body (Bo.Mt b) = planned-na s w Mt (b .loc) (b .edit)
@@ -94,12 +114,12 @@ module _ (s : List ℕ) where
 
   -- ---- both
   abbrev planText : TextPlan → Option (List ℕ)
-  planText NoText = none
+  planText (Refused r) = none
   planText (Planned d) = some (draftText s d)
 
   module _ (k : Kind) (a : List ℕ) (gene : Option (List ℕ)) (heading : Heading) where
     whole : (o : Option HeaderTree) (p : BodyPlan) (u : Option (BodyTree k)) → mapO printHeader o ≡ cond (isSome o) (some (a ++ printGene gene)) none → headingText s heading ≡ (a ++ printGene gene) ++ printKind k → BodyPlans.planText s p ≡ mapO (printBody k) u
-        → planText (cond (isSome o) (draftedPlan heading p) NoText) ≡ mapO print (bothO (λ x y. text x k y) o u)
+        → planText (cond (isSome o) (draftedPlan heading p) (Refused NoText)) ≡ mapO print (bothO (λ x y. text x k y) o u)
     unfolding draftText
     whole none p u g i j = refl
     whole (some x) Bodies.NoText none g i j = refl
@@ -111,22 +131,22 @@ module _ (s : List ℕ) where
         ap some (rw (i, n, m) (append-assoc (a ++ printGene gene) (printKind k) (printBody k y)))
 
   module _ (w : Wording) (v : HgvsVariant) where
-    planned : planText (textPlan s w v) ≡ mapO print (wordedText allLetters alphabets w (content s v))
+    planned : planText (textPlan s w (v .header) (anyBody (v .body))) ≡ mapO print (wordedText allLetters alphabets w (content s v))
     unfolding textPlan
     planned =
         let h = headerContent s (v .header) in
         let k = kindOf (v .body) in
         let accession = part s (v .header .accession) in
         let gene = optionalPart s (v .header .«gene_symbol») in
-        rw (value-is h (v .body), text-parts allLetters alphabets w h k (bodyValue (v .body)))
-        (whole k accession gene (headingOf (v .header) k) (canonHeader h) (planBody s w (v .body)) (wordedBody allLetters alphabets w k (bodyValue (v .body))) (header-text s (v .header)) (gene-text accession (printKind k) (v .header .«gene_symbol») k refl (v .header .accession) refl) (planned-body w (v .body)))
+        rw (value-is h (v .body), kind-is (v .body), text-parts allLetters alphabets w h k (bodyValue (v .body)))
+        (whole k accession gene (headingOf (v .header) k) (canonHeader h) (planAny s w (anyBody (v .body))) (wordedBody allLetters alphabets w k (bodyValue (v .body))) (header-text s (v .header)) (gene-text accession (printKind k) (v .header .«gene_symbol») k refl (v .header .accession) refl) (planned-body w (v .body)))
 
     -- the checks on source and record
     module _ (short : length s ≤ limit) (isIn : spansInside (length s) v ≡ true) where
-      pub unsound-plan : textPlan s w v ≡ NoText → Unsound allLetters s v 5
-      unsound-plan e = Unsound.noText short isIn (worded-none allLetters alphabets w (content s v) (unprinted (wordedText allLetters alphabets w (content s v)) (rw e at planned)))
+      pub unsound-plan : (r : Refusal) → textPlan s w (v .header) (anyBody (v .body)) ≡ Refused r → Unsound allLetters s v 5
+      unsound-plan r e = Unsound.noText short isIn (worded-none allLetters alphabets w (content s v) (unprinted (wordedText allLetters alphabets w (content s v)) (rw e at planned)))
 
-      pub sound-plan : (d : Draft) → textPlan s w v ≡ Planned d → Sound allLetters s v × Wanted allLetters w (content s v) (draftText s d)
+      pub sound-plan : (d : Draft) → textPlan s w (v .header) (anyBody (v .body)) ≡ Planned d → Sound allLetters s v × Wanted allLetters w (content s v) (draftText s d)
       sound-plan d e =
           let m = map-some print (wordedText allLetters alphabets w (content s v)) (draftText s d) (sym (rw e at planned)) in
           let f = worded-some allLetters alphabets w (content s v) (m .0) (m .1 .0) in

@@ -1,67 +1,36 @@
-// What is to be written for a whole record, where it has a text: header, kind and body.
+// What is to be written for a header and a body, where they have a text.
 use any_body::AnyBody;
 use emit_draft::Draft;
 use emit_draft::Heading;
-use emit_piece::OneByte;
 use plan_na_body::BodyPlan;
-use record::Body;
 use record::Header;
-use record::HgvsVariant;
 use record::Kind;
-use record::Part;
+use record::Refusal;
 use record::Wording;
 ghost use mathlib.Core.Path.{_≡_};
 ghost use Rattle.alphabet.specs.Cells.{IsTable};
-ghost use Rattle.plan_text.specs.Plan.{kindOf, planBody, headingOf, draftedPlan, textPlan};
+ghost use Rattle.plan_text.specs.Plan.{anyKind, planAny, draftedPlan, textPlan};
 
-// A text that is to be written, where there is one.
+// A text that is to be written, or why there is none.
 pub enum TextPlan {
-    NoText,
+    Refused(Refusal),
     Text(Draft),
 }
 
-fn kind_of(b: Body) -> Kind
-    ensures { λ r. ⌜ r ≡ kindOf b ⌝ }
+fn kind_of(b: AnyBody) -> Kind
+    ensures { λ r. ⌜ r ≡ anyKind b ⌝ }
 {
     match b {
-        Body::Cds(_) => Kind::Cds,
-        Body::Genome(_) => Kind::Genome,
-        Body::Mt(_) => Kind::Mt,
-        Body::Tx(_) => Kind::Tx,
-        Body::Prot(_) => Kind::Prot,
-        Body::Rna(_) => Kind::Rna,
+        AnyBody::Nucleotide(kind, _, _) => kind,
+        AnyBody::Protein(_) => Kind::Prot,
     }
 }
 
-// The gene in brackets, where there is one.
-fn heading(h: Header, kind: Kind) -> Heading
-    ensures { λ r. ⌜ r ≡ headingOf h kind ⌝ }
-{
-    let accession = h.accession;
-    let gene_symbol = h.gene_symbol;
-    match gene_symbol {
-        Part::Absent => Heading {
-            accession,
-            opening: OneByte::Nothing,
-            gene: plan_edits::NO_SPAN,
-            closing: OneByte::Nothing,
-            kind,
-        },
-        Part::Present(gene) => Heading {
-            accession,
-            opening: OneByte::Byte(b'('),
-            gene,
-            closing: OneByte::Byte(b')'),
-            kind,
-        },
-    }
-}
-
-fn plan_body(table: &[u8; 256], source: &[u8], wording: Wording, b: Body) -> BodyPlan
+fn plan_body(table: &[u8; 256], source: &[u8], wording: Wording, b: AnyBody) -> BodyPlan
     requires { ⌜ IsTable (now table) ⌝ }
-    ensures { λ r. ⌜ r ≡ planBody (now (source .entry)) wording b ⌝ }
+    ensures { λ r. ⌜ r ≡ planAny (now (source .entry)) wording b ⌝ }
 {
-    match any_body::any_body(b) {
+    match b {
         AnyBody::Nucleotide(kind, l, edit) => {
             plan_na_body::plan_na_body(table, source, wording, kind, l, edit)
         }
@@ -73,23 +42,21 @@ fn drafted(heading: Heading, planned: BodyPlan) -> TextPlan
     ensures { λ r. ⌜ r ≡ draftedPlan heading planned ⌝ }
 {
     match planned {
-        BodyPlan::NoText => TextPlan::NoText,
+        BodyPlan::NoText => TextPlan::Refused(Refusal::NoText),
         BodyPlan::Text(body) => TextPlan::Text(Draft { heading, body }),
     }
 }
 
 // The text that the wording asks for; a record that has no text has none in any wording.
-pub fn plan_text(source: &[u8], wording: Wording, v: HgvsVariant) -> TextPlan
-    ensures { λ r. ⌜ r ≡ textPlan (now (source .entry)) wording v ⌝ }
+pub fn plan_text(source: &[u8], wording: Wording, header: Header, b: AnyBody) -> TextPlan
+    ensures { λ r. ⌜ r ≡ textPlan (now (source .entry)) wording header b ⌝ }
 {
     let table = alphabet::classes();
-    let header = v.header;
-    let body = v.body;
     if !plan_header::header_has_text(&table, source, header) {
-        return TextPlan::NoText;
+        return TextPlan::Refused(Refusal::NoText);
     }
     drafted(
-        heading(header, kind_of(body)),
-        plan_body(&table, source, wording, body),
+        plan_header::heading(header, kind_of(b)),
+        plan_body(&table, source, wording, b),
     )
 }

@@ -1,6 +1,6 @@
 // Which records have every span in their source.
-use record::Body;
-use record::HgvsVariant;
+use any_body::AnyBody;
+use record::Header;
 use record::MuNaEdit;
 use record::MuProtInterval;
 use record::MuProteinEdit;
@@ -12,7 +12,8 @@ use record::ProteinEdit;
 ghost use mathlib.Core.Path.{_≡_};
 ghost use mathlib.Core.Bool.{_&&_};
 ghost use Rattle.grammar.specs.Spans.{inside, insideOptional};
-ghost use Rattle.grammar.specs.Contents.{naEditInside, muNaEditInside, proteinEditInside, muProteinEditInside, protLocationInside, protBodyInside, bodyInside, spansInside};
+ghost use Rattle.grammar.specs.Contents.{naEditInside, muNaEditInside, proteinEditInside, muProteinEditInside, protLocationInside, protBodyInside};
+ghost use Rattle.record_inside.specs.AnyInside.{anyInside, headerInside};
 
 fn optional_inside(n: usize, part: Part) -> bool
     ensures { λ r. ⌜ r ≡ insideOptional n part ⌝ }
@@ -118,44 +119,23 @@ fn prot_body_inside(n: usize, body: ProtLocEdit) -> bool
     }
 }
 
-fn body_inside(n: usize, body: Body) -> bool
-    ensures { λ r. ⌜ r ≡ bodyInside n body ⌝ }
+fn any_inside(n: usize, b: AnyBody) -> bool
+    ensures { λ r. ⌜ r ≡ anyInside n b ⌝ }
 {
-    match body {
-        Body::Cds(b) => {
-            let edit = b.edit;
-            mu_na_edit_inside(n, edit)
-        }
-        Body::Genome(b) => {
-            let edit = b.edit;
-            mu_na_edit_inside(n, edit)
-        }
-        Body::Mt(b) => {
-            let edit = b.edit;
-            mu_na_edit_inside(n, edit)
-        }
-        Body::Tx(b) => {
-            let edit = b.edit;
-            mu_na_edit_inside(n, edit)
-        }
-        Body::Prot(b) => prot_body_inside(n, b),
-        Body::Rna(b) => {
-            let edit = b.edit;
-            mu_na_edit_inside(n, edit)
-        }
+    match b {
+        AnyBody::Nucleotide(_, _, edit) => mu_na_edit_inside(n, edit),
+        AnyBody::Protein(p) => prot_body_inside(n, p),
     }
 }
 
-// Every span of the record lies in a source of n bytes.
-pub fn spans_inside(n: usize, v: HgvsVariant) -> bool
-    ensures { λ r. ⌜ r ≡ spansInside n v ⌝ }
+// Every span of the header and of the body lies in a source of n bytes.
+pub fn spans_inside(n: usize, header: Header, b: AnyBody) -> bool
+    ensures { λ r. ⌜ r ≡ headerInside n header && anyInside n b ⌝ }
 {
-    let header = v.header;
     let accession = header.accession;
     let gene = header.gene_symbol;
     if optionals_inside(n, Part::Present(accession), gene) {
-        let body = v.body;
-        return body_inside(n, body);
+        return any_inside(n, b);
     }
     false
 }

@@ -1,7 +1,6 @@
 // Writing a record into lent room: its shortest text, or the one without the reference.
 use plan_text::TextPlan;
 use record::HgvsVariant;
-use record::Refusal;
 use record::Wording;
 use record::WriteAnswer;
 ghost use Rattle.grammar.specs.Texts.{allLetters};
@@ -13,16 +12,10 @@ ghost use Rattle.lang_canon.specs.Wording.{Wanted};
 fn write_wanted(source: &[u8], v: HgvsVariant, output: &mut [u8], wording: Wording) -> WriteAnswer
     ensures { λ r. ⌜ Writes allLetters (Wanted allLetters wording) (now (source .entry)) v (now (output .entry)) (writeOutcome r) (now (output .exit)) ⌝ }
 {
-    if 4096 < source.len() {
-        return WriteAnswer::Refused(Refusal::TooLong);
+    match plan_record::plan_record(source, wording, v) {
+        TextPlan::Refused(why) => WriteAnswer::Refused(why),
+        TextPlan::Text(d) => emit_text::write_draft(source, d, output),
     }
-    if !record_inside::spans_inside(source.len(), v) {
-        return WriteAnswer::Refused(Refusal::BadSpan);
-    }
-    let TextPlan::Text(d) = plan_text::plan_text(source, wording, v) else {
-        return WriteAnswer::Refused(Refusal::NoText);
-    };
-    emit_text::write_draft(source, d, output)
 }
 
 // The shortest text, first in byte order among equals, at the front of the output; or the refusal's number, and nothing written.

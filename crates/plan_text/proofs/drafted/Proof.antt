@@ -9,7 +9,7 @@ enum-known-planned : tie.Need-enum-known-planned
 enum-known-planned c = search needs
 
 returns : tie.Need-returns
-returns c = search needs
+returns c = rw (c .enum-told .given .1)
 
 returns-2 : tie.Need-returns-2
 returns-2 c = rw (c .before .planned .given .1)

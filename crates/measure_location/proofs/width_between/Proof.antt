@@ -3,9 +3,9 @@ use mathlib.Core.Path.{ap}
 use mathlib.Core.Option.{some}
 use mir.Facts.{toZ-ofZ, sfits-widen}
 use Rattle.promise.specs.Width.{widthBetween}
-use Rattle.measure_body.proofs.Apart.{Apart, machine-apart, gap-fits, gap-machine}
-use Rattle.measure_body.proofs.width_between.Statement.{statement}
-use Rattle.measure_body.proofs.width_between.Tie as tie
+use Rattle.measure_location.proofs.Apart.{Apart, machine-apart, gap-fits, gap-machine}
+use Rattle.measure_location.proofs.width_between.Statement.{statement}
+use Rattle.measure_location.proofs.width_between.Tie as tie
 
 apart : (c : tie.Then1) → Apart (c .before .args .start) (c .before .args .end)
 apart c = machine-apart (c .before .fits .start) (c .before .fits .end) (c .if1 .taken)

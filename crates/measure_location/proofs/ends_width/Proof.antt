@@ -2,8 +2,8 @@ use mir.Facts.{toZ-ofZ}
 use mir.Syntax.{w32}
 use mir.Val.{SFits}
 use borrow.Author.Needs.{needs}
-use Rattle.measure_body.proofs.ends_width.Statement.{statement}
-use Rattle.measure_body.proofs.ends_width.Tie as tie
+use Rattle.measure_location.proofs.ends_width.Statement.{statement}
+use Rattle.measure_location.proofs.ends_width.Tie as tie
 
 enum-told : tie.Need-enum-told
 enum-told c = search needs

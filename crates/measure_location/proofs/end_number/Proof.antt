@@ -4,8 +4,8 @@ use mir.Syntax.{w32}
 use mir.Val.{SFits}
 use Rattle.record.specs.declared.Offset.the-variants.{Absent}
 use borrow.Author.Needs.{needs}
-use Rattle.measure_body.proofs.end_number.Statement.{statement}
-use Rattle.measure_body.proofs.end_number.Tie as tie
+use Rattle.measure_location.proofs.end_number.Statement.{statement}
+use Rattle.measure_location.proofs.end_number.Tie as tie
 
 returns : tie.Need-returns
 returns c = search needs

@@ -1,6 +1,6 @@
 use borrow.Author.Needs.{needs}
-use Rattle.plan_text.proofs.heading.Statement.{statement}
-use Rattle.plan_text.proofs.heading.Tie as tie
+use Rattle.plan_header.proofs.heading.Statement.{statement}
+use Rattle.plan_header.proofs.heading.Tie as tie
 
 enum-told : tie.Need-enum-told
 enum-told c = search needs

@@ -1,6 +1,6 @@
 use borrow.Author.Needs.{needs}
-use Rattle.measure_body.proofs.location_width.Statement.{statement}
-use Rattle.measure_body.proofs.location_width.Tie as tie
+use Rattle.measure_location.proofs.location_width.Statement.{statement}
+use Rattle.measure_location.proofs.location_width.Tie as tie
 
 end-number-requires : tie.Need-end-number-requires
 end-number-requires c κs = search needs
