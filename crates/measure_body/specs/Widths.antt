@@ -67,13 +67,10 @@ abbrev pub anyWidth : AnyBody → Option ℕ
 anyWidth (Nucleotide k l e) = locationWidth l
 anyWidth (Protein p) = protWidth p
 
-any-body-width : (b : Body) → anyWidth (anyBody b) ≡ bodyWidth b
+pub any-body-width : (b : Body) → anyWidth (anyBody b) ≡ bodyWidth b
 any-body-width (Bo.Cds b) = any-width Cds (b .loc)
 any-body-width (Bo.Genome b) = any-width Genome (b .loc)
 any-body-width (Bo.Mt b) = any-width Mt (b .loc)
 any-body-width (Bo.Tx b) = any-width Tx (b .loc)
 any-body-width (Bo.Prot b) = refl
 any-body-width (Bo.Rna b) = any-width Rna (b .loc)
-
-pub body-measured : (b : Body) {o : Option ℕ} (any : AnyBody) → o ≡ anyWidth any → any ≡ anyBody b → o ≡ bodyWidth b
-body-measured b any p q = p ∙ ap anyWidth q ∙ any-body-width b

@@ -1,11 +1,11 @@
-// The width of a record's location: document 01, "Width".
+// The width of a body's location: document 01, "Width".
 use any_body::AnyBody;
 use measure_location::LocationWidth;
-use record::Body;
 use record::ProtLocEdit;
 ghost use mathlib.Core.Path.{_≡_};
-ghost use Rattle.promise.specs.Width.{protWidth, bodyWidth};
+ghost use Rattle.promise.specs.Width.{protWidth};
 ghost use Rattle.measure_location.specs.LocationWidths.{widthGiven};
+ghost use Rattle.measure_body.specs.Widths.{anyWidth};
 
 fn prot_width(p: ProtLocEdit) -> LocationWidth
     ensures { λ r. ⌜ widthGiven r ≡ protWidth p ⌝ }
@@ -23,10 +23,10 @@ fn prot_width(p: ProtLocEdit) -> LocationWidth
     }
 }
 
-pub fn body_width(b: Body) -> LocationWidth
-    ensures { λ r. ⌜ widthGiven r ≡ bodyWidth b ⌝ }
+pub fn body_width(b: AnyBody) -> LocationWidth
+    ensures { λ r. ⌜ widthGiven r ≡ anyWidth b ⌝ }
 {
-    match any_body::any_body(b) {
+    match b {
         AnyBody::Nucleotide(_, l, _) => measure_location::location_width(l),
         AnyBody::Protein(p) => prot_width(p),
     }

@@ -1,1 +1,2 @@
 pub mod RecordPlans
+pub mod PlanSays

@@ -1,9 +1,8 @@
-use mathlib.Core.Path.{sym, _∙_}
-use Rattle.plan_record.specs.RecordPlans.{plan-says}
-use Rattle.writer.proofs.WriteCases.{refused, short, drafted}
+use Rattle.plan_record.specs.RecordPlans.{text-short}
+use Rattle.write_any.specs.PlanWritten.{refused, drafted}
 use borrow.Author.Needs.{needs}
-use Rattle.writer.proofs.write_wanted.Statement.{statement}
-use Rattle.writer.proofs.write_wanted.Tie as tie
+use Rattle.write_any.proofs.write_any.Statement.{statement}
+use Rattle.write_any.proofs.write_any.Tie as tie
 
 plan-record-requires : tie.Need-plan-record-requires
 plan-record-requires c κs = search needs
@@ -19,13 +18,13 @@ write-draft-requires c κs =
     let d = c .before .before in
     let p = d .before .before in
     let a = p .before .before .before .args in
-    short (a .source .now) (a .v) (a .output .now) (a .wording) _ (plan-says (a .source .now) (a .wording) (a .v) _ (sym (d .d .given .1) ∙ p .plan-record .ensures))
+    text-short (a .source .now) (a .wording) (a .header) (a .b) (p .plan-record .result) (p .plan-record .ensures) _ (d .d .given .1)
 
 returns : tie.Need-returns
 returns c =
     let p = c .before .before .before in
     let a = p .before .before .before .args in
-    refused (a .source .now) (a .v) (a .output .now) (a .wording) (c .before .why .given .0 .0) (plan-says (a .source .now) (a .wording) (a .v) _ (sym (c .before .why .given .1) ∙ p .plan-record .ensures))
+    refused (a .source .now) (a .wording) (a .header) (a .b) (a .output .now) (p .plan-record .result) (p .plan-record .ensures) _ (c .before .why .given .1)
 
 same-length : tie.Need-same-length
 same-length c = search needs
@@ -37,10 +36,10 @@ returns-2 c =
     let p = d .before .before in
     let a = p .before .before .before .args in
     let e = w .write-draft .ensures in
-    drafted (a .source .now) (a .v) (a .output .now) (a .wording) _ (plan-says (a .source .now) (a .wording) (a .v) _ (sym (d .d .given .1) ∙ p .plan-record .ensures)) _ _ (e .0) (e .1)
+    drafted (a .source .now) (a .wording) (a .header) (a .b) (a .output .now) (p .plan-record .result) (p .plan-record .ensures) _ (d .d .given .1) _ _ (e .0) (e .1)
 
-pub write-wanted-spec : {M : Type 1} → statement M
-write-wanted-spec =
+pub write-any-spec : {M : Type 1} → statement M
+write-any-spec =
     tie.close
     (tie.spec
     plan-record-requires

@@ -1,0 +1,2 @@
+pub mod PlanMeasured
+pub mod AnyMeasures

@@ -1,0 +1,2 @@
+pub mod PlanWritten
+pub mod AnyWrites
