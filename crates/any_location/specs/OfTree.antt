@@ -39,6 +39,10 @@ notKnown = plainOf (span 0 0) (pos 0) true
 abbrev pub basedOf : Based → Position
 basedOf (based m ds o) = withBase (number (signOf m) ds) (fromOf m) (offsetOf o)
 
+-- in n and r no mark says from where
+abbrev pub unstarredOf : Based → Position
+unstarredOf (based m ds o) = withBase (number (signOf m) ds) Start (offsetOf o)
+
 abbrev pub genomicOf : Genomic → Position
 genomicOf (known ds) = knownAt (number Plain ds)
 genomicOf unknown = notKnown
@@ -50,9 +54,9 @@ abbrev pub positionOf : (k : Kind) → ℕ → G.PositionTree k → Position
 positionOf Cds at = basedOf
 positionOf Genome at = genomicOf
 positionOf Mt at = genomicOf
-positionOf Tx at = basedOf
+positionOf Tx at = unstarredOf
 positionOf Prot at = residualOf at
-positionOf Rna at = basedOf
+positionOf Rna at = unstarredOf
 
 abbrev pub intervalOf : (k : Kind) → Bool → ℕ → Ends k → Location
 intervalOf k sure at (one p) = record { certain = sure; start = positionOf k at p; end = positionOf k at p }
