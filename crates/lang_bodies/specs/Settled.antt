@@ -1,13 +1,12 @@
 -- Which texts are written as they stand where their numbers are plainly spelled. `canon: Settled` shows it; others may be so too.
-use Prim.Native.Nat.{ℕ, _≤_, _<_}
+use Prim.Native.Nat.{ℕ, _≤_}
 use mathlib.Core.Path.{_≡_}
 use mathlib.Core.List.{List}
 use mathlib.Core.Option.{Option, none, some}
 use mathlib.Core.Bool.{Bool, true, false, _&&_}
 use lib.Dec.{leb}
 use lib.ListN.{length}
-use borrow.Author.Tests.{le-leb, lt-leb}
-use Rattle.texts.specs.Tests.{and-false}
+use borrow.Author.Tests.{le-leb}
 use Rattle.record.specs.declared.Kind.{Kind}
 use Rattle.record.specs.declared.Kind.the-variants.{Cds, Genome, Mt, Tx, Prot, Rna}
 use Rattle.grammar.specs.Shapes.{Mu.certain, Mu.uncertain, Both.both}
@@ -60,14 +59,6 @@ unfoldable pub isSettled : (letters : Kind → ℕ → Bool) → ((k : Kind) →
 isSettled letters al s = leb (length s) limit && settledTree (parseText letters al s)
 
 module _ (letters : Kind → ℕ → Bool) (al : (k : Kind) → Alphabet (letters k)) (s : List ℕ) where
-  pub long-unsettled : limit < length s → false ≡ isSettled letters al s
-  unfolding isSettled
-  long-unsettled h = rw (lt-leb (length s) limit h)
-
-  pub unparsed-unsettled : parseText letters al s ≡ none → false ≡ isSettled letters al s
-  unfolding isSettled
-  unparsed-unsettled e = rw (e, and-false (leb (length s) limit))
-
   pub parsed-settled : (x : Text) → length s ≤ limit → parseText letters al s ≡ some x → isSettled letters al s ≡ isFaultless (numbersAt 0 x) && (allPlain (numbersAt 0 x) && settledText x)
   unfolding isSettled
   parsed-settled x h e = rw (le-leb (length s) limit h, e)

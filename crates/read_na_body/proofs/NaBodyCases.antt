@@ -1,4 +1,4 @@
--- Laws of bodies: what is made of location and edit, and what reading one after the other answers.
+-- Laws of bodies: what reading location and edit one after the other answers.
 use Prim.Native.Nat.{ℕ, _+_, _-_, _≤_}
 use mathlib.Core.Path.{_≡_, sym, ap, _∙_}
 use mathlib.Core.List.{List}
@@ -9,13 +9,10 @@ use borrow.Author.Tests.{eq-eqb, ne-eqb}
 use Rattle.texts.specs.Slices.{tail-part, tail-at}
 use Rattle.alphabet.specs.Letters.{nucleotide}
 use Rattle.record.specs.declared.Kind.{Kind}
-use Rattle.record.specs.declared.Kind.the-variants.{Cds, Genome, Mt, Tx, Rna}
 use Rattle.record.specs.declared.MuNaEdit.{MuNaEdit}
-use Rattle.record.specs.declared.Body.the-variants as Bo
 use Rattle.grammar.specs.Shapes.{Both.both, printMu}
 use Rattle.grammar.specs.NucleotideEdits.{printNaEdit}
 use Rattle.grammar.specs.Bodies.{printLocation, printNaBody}
-use Rattle.grammar.specs.Records.{MuIntervalR}
 use Rattle.grammar.specs.Numbers.{muNumbers, endsNumbers, naEditNumbers, naBodyNumbers}
 use Rattle.lang.specs.Lang.{within}
 use Rattle.lang.specs.Whole.{whole}
@@ -31,31 +28,13 @@ use Rattle.lang_bodies.specs.Settled.{settledNaBody}
 use Rattle.read_scan.specs.declared.Faults.{Faults}
 use Rattle.read_scan.specs.Faults.{faults, first, faults-append}
 use Rattle.any_location.specs.declared.Location as Raw
-use Rattle.any_location.specs.ToRecord.{locationFor}
+use Rattle.any_body.specs.declared.AnyBody.the-variants.{Nucleotide}
 use Rattle.read_location.specs.Told.{LocationTold, location-within}
 use Rattle.read_na_edit.specs.Told.{MuTold}
 use Rattle.read_na_body.specs.declared.BodyRead.{BodyRead}
 use Rattle.read_na_body.specs.declared.BodyRead.the-variants.{Nothing, Found}
-use Rattle.read_na_body.specs.NaBodyAnswers.{locEdit, naBodyOf, naAnswer}
+use Rattle.read_na_body.specs.NaBodyAnswers.{naBodyOf, naAnswer}
 
--- ---- the body of each kind
-module _ (l : Raw.Location) (e : MuNaEdit) where
-  pub made-cds : (kind : Kind) (m : MuIntervalR Cds) → kind ≡ Cds → m ≡ locationFor Cds l → Bo.Cds (record { loc = m; edit = e }) ≡ locEdit kind l e
-  made-cds kind m p q = rw (p, q)
-
-  pub made-genome : (kind : Kind) (m : MuIntervalR Genome) → kind ≡ Genome → m ≡ locationFor Genome l → Bo.Genome (record { loc = m; edit = e }) ≡ locEdit kind l e
-  made-genome kind m p q = rw (p, q)
-
-  pub made-mt : (kind : Kind) (m : MuIntervalR Mt) → kind ≡ Mt → m ≡ locationFor Mt l → Bo.Mt (record { loc = m; edit = e }) ≡ locEdit kind l e
-  made-mt kind m p q = rw (p, q)
-
-  pub made-tx : (kind : Kind) (m : MuIntervalR Tx) → kind ≡ Tx → m ≡ locationFor Tx l → Bo.Tx (record { loc = m; edit = e }) ≡ locEdit kind l e
-  made-tx kind m p q = rw (p, q)
-
-  pub made-rna : (kind : Kind) (m : MuIntervalR Rna) → kind ≡ Rna → m ≡ locationFor Rna l → Bo.Rna (record { loc = m; edit = e }) ≡ locEdit kind l e
-  made-rna kind m p q = rw (p, q)
-
--- ---- a location, and behind it an edit
 module _ (k : Kind) (at : ℕ) (s : List ℕ) where
   abbrev pub answer : BodyRead
   answer = naAnswer k at (whole (naBodyLang nucleotide nucleotides k) s)
@@ -90,9 +69,9 @@ module _ (k : Kind) (at : ℕ) (s : List ℕ) where
       unfolding naAnswer whole
       not-ended h = rw (found, both-long, ne-eqb (n + m) (length s) h)
 
-      pub body-found : n + m ≡ length s → (b : _) (w : Faults) → b ≡ locEdit k l d → w ≡ first f g → Found b w ≡ answer
+      pub body-found : n + m ≡ length s → (w : Faults) → w ≡ first f g → Found (Nucleotide k l d) w ≡ answer
       unfolding naAnswer whole
-      body-found h b w p q =
-          let u : b ≡ naBodyOf k at (both (x .tree) (y .tree)) = p ∙ rw (x .means, y .means, x .long) in
+      body-found h w q =
+          let u : Nucleotide k l d ≡ naBodyOf k at (both (x .tree) (y .tree)) = rw (x .means, y .means, x .long) in
           let v : w ≡ faults (naBodyNumbers k at (both (x .tree) (y .tree))) (settledNaBody k (both (x .tree) (y .tree))) = q ∙ rw (x .wrong, y .wrong, x .long) (sym (faults-append (muNumbers (endsNumbers k) at (x .tree)) (muNumbers naEditNumbers (at + length (printLocation k (x .tree))) (y .tree)) (settledLocation k (x .tree)) (settledMu settledNaEdit (y .tree)))) in
           rw (found, both-long, eq-eqb (n + m) (length s) h, u, v)

@@ -11,7 +11,6 @@ use Rattle.texts.specs.Ascii.{ascii}
 use Rattle.texts.specs.Words.{starts, same, same-true}
 use Rattle.record.specs.declared.Kind.the-variants.{Prot}
 use Rattle.record.specs.declared.ProtLocEdit.{ProtLocEdit}
-use Rattle.record.specs.declared.Body.the-variants as Bo
 use Rattle.grammar.specs.Bodies.{ProteinBody, printProteinBody}
 use Rattle.grammar.specs.Records.{proteinBodyAt}
 use Rattle.grammar.specs.Numbers.{proteinBodyNumbers}
@@ -20,6 +19,7 @@ use Rattle.lang_bodies.specs.ProteinBodies.{exactBodies, firstExact, parseOrdin
 use Rattle.lang_bodies.specs.Settled.{settledProteinBody}
 use Rattle.read_scan.specs.declared.Faults.{Faults}
 use Rattle.read_scan.specs.Faults.{faults, settledIf, none as noFaults, settled-none}
+use Rattle.any_body.specs.declared.AnyBody.the-variants.{Protein}
 use Rattle.read_na_body.specs.declared.BodyRead.the-variants as BR
 use Rattle.read_na_body.specs.NaBodyAnswers.{bodyAnswer}
 use Rattle.read_protein_change.specs.declared.OrdinaryRead.the-variants as OR
@@ -81,7 +81,7 @@ all-exact =
     (exact _ (λ k. refl) (λ k. refl) refl, (exact _ (λ k. refl) (λ k. refl) refl, (exact _ (λ k. refl) (λ k. refl) refl, (exact _ (λ k. refl) (λ k. refl) refl, (exact _ (λ k. refl) (λ k. refl) refl, (exact _ (λ k. refl) (λ k. refl) refl, (exact _ (λ k. refl) (λ k. refl) refl, tt)))))))
 
 module _ (at : ℕ) (s : List ℕ) where
-  pub exact-found : (b : ProtLocEdit) (f w : Faults) (opened : Bool) → ExactTold s b → opened ≡ starts (ascii "(") s → f ≡ noFaults → w ≡ settledIf (not opened) f → BR.Found (Bo.Prot b) w ≡ bodyAnswer Prot at (parseProteinBody s)
+  pub exact-found : (b : ProtLocEdit) (f w : Faults) (opened : Bool) → ExactTold s b → opened ≡ starts (ascii "(") s → f ≡ noFaults → w ≡ settledIf (not opened) f → BR.Found (Protein b) w ≡ bodyAnswer Prot at (parseProteinBody s)
   unfolding bodyAnswer parseProteinBody
   exact-found b f w opened x eo ef ew =
       let t = x .tree in
@@ -101,6 +101,6 @@ module _ (at : ℕ) (s : List ℕ) where
       unfolding bodyAnswer parseProteinBody
       body-open h = rw (none-exact, x .parsed, ne-eqb (length (printProteinBody (x .tree))) (length s) (λ e. h (x .long ∙ e)))
 
-      pub body-found : n ≡ length s → BR.Found (Bo.Prot b) f ≡ bodyAnswer Prot at (parseProteinBody s)
+      pub body-found : n ≡ length s → BR.Found (Protein b) f ≡ bodyAnswer Prot at (parseProteinBody s)
       unfolding bodyAnswer parseProteinBody
       body-found h = rw (none-exact, x .parsed, eq-eqb (length (printProteinBody (x .tree))) (length s) (sym (x .long) ∙ h), x .means, x .wrong)

@@ -1,7 +1,7 @@
 // Reading a body of p: the texts without location, tried as a whole, else location and edit, up to the end of the text.
+use any_body::AnyBody;
 use read_na_body::BodyRead;
 use read_protein_change::OrdinaryRead;
-use record::Body;
 use record::ProtLocEdit;
 ghost use mathlib.Core.Path.{_≡_};
 ghost use Prim.Native.Nat.{_+_, _≤_};
@@ -51,7 +51,7 @@ pub fn prot_body(table: &[u8; 256], s: &[u8], at: usize) -> BodyRead
 {
     if let ExactRead::Found(b) = exact(s) {
         return BodyRead::Found(
-            Body::Prot(b),
+            AnyBody::Protein(b),
             read_scan::settled_if(!words::begins(s, b"("), read_scan::no_faults()),
         );
     }
@@ -61,5 +61,5 @@ pub fn prot_body(table: &[u8; 256], s: &[u8], at: usize) -> BodyRead
     if n != s.len() {
         return BodyRead::Nothing;
     }
-    BodyRead::Found(Body::Prot(b), faults)
+    BodyRead::Found(AnyBody::Protein(b), faults)
 }

@@ -11,7 +11,6 @@ use Rattle.texts.specs.Slices.{tail-part, tail-at}
 use Rattle.record.specs.declared.Kind.{Kind}
 use Rattle.record.specs.declared.Kind.the-variants.{Cds, Genome, Mt, Tx, Prot, Rna}
 use Rattle.record.specs.declared.Header as Record
-use Rattle.record.specs.declared.Body as RecordBody
 use Rattle.grammar.specs.Header.{HeaderTree, printHeader, printKind, kind-length}
 use Rattle.grammar.specs.Shapes.{Both.both}
 use Rattle.grammar.specs.Bodies.{BodyTree}
@@ -32,6 +31,8 @@ use Rattle.lang_bodies.specs.ProteinBodies.{parseProteinBody}
 use Rattle.lang_bodies.specs.BodyLang.{parseBody}
 use Rattle.lang_bodies.specs.WholeText.{parseText}
 use Rattle.lang_bodies.specs.Settled.{settledBody}
+use Rattle.any_body.specs.declared.AnyBody.{AnyBody}
+use Rattle.any_body.specs.AnyBodies.{anyBody}
 use Rattle.read_scan.specs.declared.Faults.{Faults}
 use Rattle.read_scan.specs.Faults.{faults}
 use Rattle.read_header.specs.declared.HeaderRead.the-variants as HR
@@ -116,11 +117,11 @@ module _ (s : List ℕ) {h : Record.Header} {n : ℕ} (x : HeaderTold s h n) whe
     unfolding parseText
     text-is = rw (heading, heading-long, tail-part (n + 3) s)
 
-    body-answer : (o : Option (BodyTree k)) → (b : RecordBody.Body) (f : Faults) → BR.Found b f ≡ bodyAnswer k (n + 3) o → Found (record { header = h; body = b }) f ≡ textAnswer (mapO (text (x .tree) k) o)
+    body-answer : (o : Option (BodyTree k)) → (b : AnyBody) (f : Faults) → BR.Found b f ≡ bodyAnswer k (n + 3) o → Found h b f ≡ textAnswer (mapO (text (x .tree) k) o)
     unfolding bodyAnswer textAnswer
     body-answer none b f e = absurd (let z : _≡_ {A = ℕ} 0 1 = cc in omega arith)
     body-answer (some t) b f e =
-        let a : b ≡ bodyAt k (n + 3) t = cc in
+        let a : b ≡ anyBody (bodyAt k (n + 3) t) = cc in
         let c : f ≡ faults (bodyNumbers k (n + 3) t) (settledBody k t) = cc in
         let m = x .means in
         let j : n + 3 ≡ 0 + length (printHeader (x .tree)) + length (printKind k) = omega (arith, x .long, kind-length k) in
@@ -133,5 +134,5 @@ module _ (s : List ℕ) {h : Record.Header} {n : ℕ} (x : HeaderTold s h n) whe
         (λ q z. sym (text-is ∙ ap (λ (o : Option (BodyTree k)). textAnswer (mapO (text (x .tree) k) o)) q))
         (λ t q z. absurd (let y : _≡_ {A = ℕ} 0 1 = cc in omega arith))
 
-    pub text-found : (b : RecordBody.Body) (f : Faults) → BR.Found b f ≡ bodyAnswer k (n + 3) (parseBody allLetters alphabets k (take (length s - (n + 3)) (drop (n + 3) s))) → Found (record { header = h; body = b }) f ≡ textAnswer (parseText allLetters alphabets s)
+    pub text-found : (b : AnyBody) (f : Faults) → BR.Found b f ≡ bodyAnswer k (n + 3) (parseBody allLetters alphabets k (take (length s - (n + 3)) (drop (n + 3) s))) → Found h b f ≡ textAnswer (parseText allLetters alphabets s)
     text-found b f e = body-answer (parseBody allLetters alphabets k (take (length s - (n + 3)) (drop (n + 3) s))) b f e ∙ sym text-is

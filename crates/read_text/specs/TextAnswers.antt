@@ -1,4 +1,4 @@
--- What the reader gives for the tree of a text: its record, and its faults.
+-- What the reader gives for the tree of a text: its record's header, its record's body as one of any kind, and its faults.
 use mathlib.Core.Option.{Option, none, some}
 use mathlib.Core.Bool.{Bool, true, false}
 use Rattle.record.specs.declared.Kind.{Kind}
@@ -6,6 +6,7 @@ use Rattle.record.specs.declared.Kind.the-variants.{Cds, Genome, Mt, Tx, Prot, 
 use Rattle.grammar.specs.Texts.{Text}
 use Rattle.grammar.specs.Records.{recordAt}
 use Rattle.grammar.specs.Numbers.{numbersAt}
+use Rattle.any_body.specs.AnyBodies.{anyBody}
 use Rattle.read_scan.specs.Faults.{faults}
 use Rattle.lang_bodies.specs.Settled.{settledText}
 use Rattle.read_text.specs.declared.TextRead.{TextRead}
@@ -21,4 +22,4 @@ isProtein Rna = false
 
 unfoldable pub textAnswer : Option Text → TextRead
 textAnswer none = Nothing
-textAnswer (some x) = Found (recordAt 0 x) (faults (numbersAt 0 x) (settledText x))
+textAnswer (some x) = Found (recordAt 0 x .header) (anyBody (recordAt 0 x .body)) (faults (numbersAt 0 x) (settledText x))

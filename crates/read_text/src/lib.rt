@@ -1,9 +1,10 @@
 // A text of the grammar: the header, the kind, then the body up to the end.
+use any_body::AnyBody;
 use read_header::HeaderRead;
 use read_header::KindRead;
 use read_na_body::BodyRead;
 use read_scan::Faults;
-use record::HgvsVariant;
+use record::Header;
 use record::Kind;
 ghost use mathlib.Core.Path.{_≡_};
 ghost use Prim.Native.Nat.{_+_, _≤_};
@@ -16,10 +17,10 @@ ghost use Rattle.lang_bodies.specs.WholeText.{parseText};
 ghost use Rattle.read_na_body.specs.NaBodyAnswers.{bodyAnswer};
 ghost use Rattle.read_text.specs.TextAnswers.{isProtein, textAnswer};
 
-// A text of the grammar: its record, and what is wrong with its numbers.
+// A text of the grammar: the header and the body of its record, and what is wrong with its numbers.
 pub enum TextRead {
     Nothing,
-    Found(HgvsVariant, Faults),
+    Found(Header, AnyBody, Faults),
 }
 
 fn is_protein(kind: Kind) -> bool
@@ -60,5 +61,5 @@ pub fn hgvs_variant(table: &[u8; 256], s: &[u8]) -> TextRead
     let BodyRead::Found(body, faults) = body_at(table, kind, &s[k..], k) else {
         return TextRead::Nothing;
     };
-    TextRead::Found(HgvsVariant { header, body }, faults)
+    TextRead::Found(header, body, faults)
 }

@@ -65,14 +65,11 @@ add-if1 c = omega (arith, edit-le (kind (c .before .before .before .before .befo
 returns-3 : tie.Need-returns-3
 returns-3 c = not-ended _ _ _ (loc (c .before .before .before .before .before .before .before)) (edit (c .before .before)) (c .if1 .taken)
 
-loc-edit-requires : tie.Need-loc-edit-requires
-loc-edit-requires c κs = search needs
-
 leftmost-requires : tie.Need-leftmost-requires
 leftmost-requires c κs = search needs
 
 returns-4 : tie.Need-returns-4
-returns-4 c = body-found _ _ _ (loc (c .before .before .before .before .before .before .before .before .before)) (edit (c .before .before .before .before)) (c .before .before .if1 .left) _ _ (c .before .loc-edit .ensures) (c .leftmost .ensures)
+returns-4 c = body-found _ _ _ (loc (c .before .before .before .before .before .before .before .before)) (edit (c .before .before .before)) (c .before .if1 .left) _ (c .leftmost .ensures)
 
 pub na-body-spec : {M : Type 1} → statement M
 na-body-spec =
@@ -92,6 +89,5 @@ na-body-spec =
     returns-2
     add-if1
     returns-3
-    loc-edit-requires
     leftmost-requires
     returns-4)

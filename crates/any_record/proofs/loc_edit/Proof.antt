@@ -1,9 +1,9 @@
-use Rattle.read_na_body.proofs.NaBodyCases.{made-cds, made-genome, made-mt, made-tx, made-rna}
+use Rattle.any_record.proofs.BodyCases.{made-cds, made-genome, made-mt, made-tx, made-rna}
 use mathlib.Core.Path.{sym, ap}
-use Rattle.read_na_body.specs.NaBodyAnswers.{locEdit}
+use Rattle.any_record.specs.RecordBodies.{locEdit}
 use borrow.Author.Needs.{needs}
-use Rattle.read_na_body.proofs.loc_edit.Statement.{statement}
-use Rattle.read_na_body.proofs.loc_edit.Tie as tie
+use Rattle.any_record.proofs.loc_edit.Statement.{statement}
+use Rattle.any_record.proofs.loc_edit.Tie as tie
 
 enum-told : tie.Need-enum-told
 enum-told c = search needs
