@@ -39,7 +39,7 @@ notKnown = plainOf (span 0 0) (pos 0) true
 abbrev pub basedOf : Based → Position
 basedOf (based m ds o) = withBase (number (signOf m) ds) (fromOf m) (offsetOf o)
 
--- in n and r no mark says from where
+-- of n and r, where no mark is a `*`: from the start
 abbrev pub unstarredOf : Based → Position
 unstarredOf (based m ds o) = withBase (number (signOf m) ds) Start (offsetOf o)
 
