@@ -3,9 +3,7 @@ use any_body::AnyBody;
 use any_location::Location;
 use fields::Fields;
 use numbered::Answer;
-use record::Body;
 use record::Header;
-use record::HgvsVariant;
 use record::Kind;
 use record::ProtLocEdit;
 use record::ReadAnswer;
@@ -94,8 +92,8 @@ fn of_protein(header: Fields, x: ProtLocEdit) -> Shown {
     }
 }
 
-fn of_body(h: Header, b: Body) -> Shown {
-    match any_body::any_body(b) {
+fn of_variant(h: Header, b: AnyBody) -> Shown {
+    match b {
         AnyBody::Nucleotide(kind, l, e) => located(of_header(kind, h), kind, l, edits::of_na(e)),
         AnyBody::Protein(x) => of_protein(of_header(Kind::Prot, h), x),
     }
@@ -122,15 +120,13 @@ fn of_refusal(a: Answer) -> Shown {
     )
 }
 
-fn of_variant(v: HgvsVariant) -> Shown {
-    let h = v.header;
-    let b = v.body;
-    of_body(h, b)
-}
-
 fn of_answer(r: ReadAnswer) -> Shown {
     match r {
-        ReadAnswer::Accepted(v) => of_variant(v),
+        ReadAnswer::Accepted(v) => {
+            let h = v.header;
+            let b = v.body;
+            of_variant(h, any_body::any_body(b))
+        }
         ReadAnswer::Refused(why) => of_refusal(numbered::of_refusal(why)),
     }
 }

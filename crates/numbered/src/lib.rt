@@ -1,11 +1,10 @@
 // What an operation on a text answers, in numbers: for C, and for the line program.
-use record::ReadAnswer;
 use record::Refusal;
 use record::WidthAnswer;
 use record::WriteAnswer;
 ghost use mathlib.Core.Path.{_≡_};
-ghost use Rattle.promise.specs.Outcome.{Outcome.given, readOutcome, writeOutcome, widthOutcome};
-ghost use Rattle.numbered.specs.Numbered.{bareAnswer, refusalNumbers, numbered, readNumbers};
+ghost use Rattle.promise.specs.Outcome.{Outcome.given, writeOutcome, widthOutcome};
+ghost use Rattle.numbered.specs.Numbered.{bareAnswer, refusalNumbers, numbered};
 
 // Document 01's number, 0 where the text was accepted; the place; and the length or width, 0 where it was refused.
 #[repr(C)]
@@ -38,15 +37,6 @@ pub fn of_refusal(r: Refusal) -> Answer
         Refusal::NoRoom => bare(6, 0),
         Refusal::NoWidth => bare(7, 0),
         Refusal::BadLine => bare(8, 0),
-    }
-}
-
-pub fn of_read(a: ReadAnswer) -> Answer
-    ensures { λ r. ⌜ r ≡ readNumbers (readOutcome a) ⌝ }
-{
-    match a {
-        ReadAnswer::Accepted(_) => bare(0, 0),
-        ReadAnswer::Refused(r) => of_refusal(r),
     }
 }
 

@@ -12,13 +12,14 @@ use Rattle.promise.specs.Reading.{Reads}
 use Rattle.promise.specs.Writing.{ToWrite}
 use Rattle.promise.specs.NoRef.{NoRefText}
 use Rattle.promise.specs.Unique.{reads-unique, writes-unique, measures-unique, one-shortest, one-no-ref}
-use Rattle.reader.specs.Unique.{one-tree}
+use Rattle.lang_na_edits.specs.Alphabet.{alphabets}
+use Rattle.lang_bodies.specs.WholeText.{unambiguous}
 use Rattle.numbered.specs.declared.Answer.{Answer}
 use Rattle.numbered.specs.Numbered.{numbered, readNumbers}
 use Rattle.numbered.specs.TextOperations.{Checks, Rewrites, Gauges}
 
 one-outcome : (t : List ℕ) (a b : Outcome HgvsVariant) → Reads allLetters t a → Reads allLetters t b → a ≡ b
-one-outcome t a b = reads-unique allLetters one-tree t a b
+one-outcome = reads-unique allLetters (unambiguous allLetters alphabets)
 
 abbrev isRefused : Outcome HgvsVariant → Bool
 isRefused (refused n place) = true

@@ -1,6 +1,6 @@
 // For C: operations on a text, in numbers and byte slices. c/saltwhistle.h says the same to a C programmer.
 use numbered::Answer;
-use record::ReadAnswer;
+use read_bytes::Reading;
 ghost use Rattle.grammar.specs.Texts.{allLetters};
 ghost use Rattle.promise.specs.Writing.{ToWrite};
 ghost use Rattle.promise.specs.NoRef.{NoRefText};
@@ -11,7 +11,10 @@ ghost use Rattle.numbered.specs.TextOperations.{Checks, Rewrites, Gauges};
 pub extern "C" fn saltwhistle_check(text: &[u8]) -> Answer
     ensures { λ r. ⌜ Checks (now (text .entry)) r ⌝ }
 {
-    numbered::of_read(reader::read(text))
+    let Reading::Refused(why) = read_bytes::reading_of(text) else {
+        return numbered::bare(0, 0);
+    };
+    numbered::of_refusal(why)
 }
 
 // The text's shortest text, at the front of the output.
@@ -35,8 +38,8 @@ pub extern "C" fn saltwhistle_noref(text: &[u8], output: &mut [u8]) -> Answer
 pub extern "C" fn saltwhistle_width(text: &[u8]) -> Answer
     ensures { λ r. ⌜ Gauges (now (text .entry)) r ⌝ }
 {
-    match reader::read(text) {
-        ReadAnswer::Refused(why) => numbered::of_refusal(why),
-        ReadAnswer::Accepted(v) => numbered::of_width(measure::width(text, v)),
+    match read_bytes::reading_of(text) {
+        Reading::Refused(why) => numbered::of_refusal(why),
+        Reading::Read(header, b, _) => numbered::of_width(measure_any::width_any(text, header, b)),
     }
 }

@@ -1,20 +1,18 @@
+use Rattle.record.specs.declared.Wording.the-variants.{NoRef}
 use Rattle.grammar.specs.Texts.{allLetters}
-use Rattle.promise.specs.Outcome.{Outcome.given, numberAndPlace, refusalOutcome}
-use Rattle.promise.specs.Reading.{Reads}
-use Rattle.numbered.specs.TextOperations.{Rewrites}
+use Rattle.promise.specs.NoRef.{NoRefText}
+use Rattle.read_bytes.specs.Telling.{ReadAs}
+use Rattle.rewriter.specs.Rewritten.{unread, read-as, rewritten}
 use borrow.Author.Needs.{needs}
 use Rattle.rewriter.proofs.noref.Statement.{statement}
 use Rattle.rewriter.proofs.noref.Tie as tie
 
--- the refusal, and the record, of the text that was read
-refused-for : (c : tie.After-why) → Reads allLetters (c .before .before .before .before .before .args .text .now) (refusalOutcome (c .why .given .0 .0))
-refused-for c = rw (c .why .given .1) at (c .before .before .read .ensures)
+-- what reading told, where the text was read
+told : (c : tie.After-header) → ReadAs (c .before .before .before .before .before .args .text .now) (c .header .given .0 .0) (c .header .given .0 .1 .0) (c .header .given .0 .1 .1 .0)
+told c = let r = c .before .before .reading-of in read-as (c .before .before .before .before .before .args .text .now) (r .result) (r .ensures) _ _ _ (c .header .given .1)
 
-accepted : (c : tie.After-v) → Reads allLetters (c .before .before .before .before .before .args .text .now) (given (c .v .given .0 .0))
-accepted c = rw (c .v .given .1) at (c .before .before .read .ensures)
-
-read-requires : tie.Need-read-requires
-read-requires c κs = search needs
+reading-of-requires : tie.Need-reading-of-requires
+reading-of-requires c κs = search needs
 
 enum-known-why : tie.Need-enum-known-why
 enum-known-why c = search needs
@@ -22,11 +20,11 @@ enum-known-why c = search needs
 of-refusal-requires : tie.Need-of-refusal-requires
 of-refusal-requires c κs = search needs
 
-enum-known-v : tie.Need-enum-known-v
-enum-known-v c = search needs
+enum-known-header : tie.Need-enum-known-header
+enum-known-header c = search needs
 
-write-noref-requires : tie.Need-write-noref-requires
-write-noref-requires c κs = search needs
+write-any-requires : tie.Need-write-any-requires
+write-any-requires c κs = search needs
 
 of-write-requires : tie.Need-of-write-requires
 of-write-requires c κs = search needs
@@ -34,8 +32,9 @@ of-write-requires c κs = search needs
 returns : tie.Need-returns
 returns c =
     let w = c .before .before in
-    let r = w .why .given .0 .0 in
-    rw (c .of-refusal .ensures) (Rewrites.unread (numberAndPlace r .0) (numberAndPlace r .1) (refused-for w))
+    let r = w .before .before in
+    let a = r .before .before .before .args in
+    unread (NoRefText allLetters) (a .text .now) (a .output .now) (r .reading-of .result) (r .reading-of .ensures) (w .why .given .0 .0) (w .why .given .1) _ (c .of-refusal .ensures)
 
 same-length : tie.Need-same-length
 same-length c = search needs
@@ -43,17 +42,19 @@ same-length c = search needs
 returns-2 : tie.Need-returns-2
 returns-2 c =
     let w = c .before .before .before in
-    rw (c .of-write .ensures) (Rewrites.written _ (accepted (w .before .before .before)) _ _ (w .write-noref .ensures))
+    let h = w .before .before .before in
+    let a = h .before .before .before .before .before .args in
+    rw (c .of-write .ensures) (rewritten (a .text .now) (a .output .now) _ _ _ (told h) NoRef _ _ (w .write-any .ensures .0) (w .write-any .ensures .1))
 
 pub noref-spec : {M : Type 1} → statement M
 noref-spec =
     tie.close
     (tie.spec
-    read-requires
+    reading-of-requires
     enum-known-why
     of-refusal-requires
-    enum-known-v
-    write-noref-requires
+    enum-known-header
+    write-any-requires
     of-write-requires
     returns
     same-length

@@ -1,16 +1,42 @@
-use Rattle.numbered.specs.TextOperations.{Checks}
+use Rattle.saltwhistle_c.specs.Told.{refused-checks, read-checks}
 use borrow.Author.Needs.{needs}
 use Rattle.saltwhistle_c.proofs.saltwhistle_check.Statement.{statement}
 use Rattle.saltwhistle_c.proofs.saltwhistle_check.Tie as tie
 
-read-requires : tie.Need-read-requires
-read-requires c κs = search needs
+reading-of-requires : tie.Need-reading-of-requires
+reading-of-requires c κs = search needs
 
-of-read-requires : tie.Need-of-read-requires
-of-read-requires c κs = search needs
+enum-known-why : tie.Need-enum-known-why
+enum-known-why c = search needs
+
+enum-told : tie.Need-enum-told
+enum-told c = search needs
+
+bare-requires : tie.Need-bare-requires
+bare-requires c κs = search needs
 
 returns : tie.Need-returns
-returns c = rw (c .of-read .ensures) (Checks.checked _ (c .before .read .ensures))
+returns c =
+    let r = c .before .before .before in
+    read-checks (r .before .before .args .text .now) (r .reading-of .result) (r .reading-of .ensures) _ _ _ _ (c .before .enum-told .given .1) (c .bare .ensures)
+
+of-refusal-requires : tie.Need-of-refusal-requires
+of-refusal-requires c κs = search needs
+
+returns-2 : tie.Need-returns-2
+returns-2 c =
+    let w = c .before .before in
+    let r = w .before .before in
+    refused-checks (r .before .before .args .text .now) (r .reading-of .result) (r .reading-of .ensures) _ (w .why .given .0 .0) (w .why .given .1) (c .of-refusal .ensures)
 
 pub saltwhistle-check-spec : {M : Type 1} → statement M
-saltwhistle-check-spec = tie.close (tie.spec read-requires of-read-requires returns)
+saltwhistle-check-spec =
+    tie.close
+    (tie.spec
+    reading-of-requires
+    enum-known-why
+    enum-told
+    bare-requires
+    returns
+    of-refusal-requires
+    returns-2)
