@@ -11,7 +11,7 @@ use Rattle.texts.specs.Runs.{every, every-append, every-wider, one-every, Some}
 use Rattle.alphabet.specs.Letters.{among, digit, letter, alphanumeric, residue}
 use Rattle.alphabet.specs.Apart.{among-every, none-among, nucleotide-letter, isAscii, alphanumeric-ascii}
 use Rattle.residue.specs.Residues.{isResidues}
-use Rattle.residue.specs.Rows.{rows}
+use Rattle.residue_rows.specs.Rows.{rows}
 use Rattle.residue.specs.ResiduesRead.{residue-passes, residues-pass}
 use Rattle.record.specs.declared.Kind.{Kind}
 use Rattle.record.specs.declared.Kind.the-variants.{Cds, Genome, Mt, Tx, Prot, Rna}

@@ -15,7 +15,7 @@ use Rattle.texts.specs.Runs.{every, Some}
 use Rattle.texts.specs.Words.{same, same-refl}
 use Rattle.texts.specs.Tables.{Each}
 use Rattle.alphabet.specs.Letters.{letter, digit, alphanumeric, nucleotide, residue}
-use Rattle.residue.specs.Rows.{rows}
+use Rattle.residue_rows.specs.Rows.{rows}
 use Rattle.residue.specs.Residues.{oneOf, isThree, isOne, isResidue, threes, isResidues}
 use Rattle.record.specs.declared.Kind.{Kind}
 use Rattle.record.specs.declared.Kind.the-variants.{Cds, Genome, Mt, Tx, Prot, Rna}

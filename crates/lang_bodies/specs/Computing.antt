@@ -5,7 +5,7 @@ use mathlib.Core.Option.{Option}
 use Rattle.texts.specs.Runs.{run, front, behind}
 use Rattle.texts.specs.Words.{starts, same}
 use Rattle.alphabet.specs.Letters.{letter, digit, alphanumeric, nucleotide, residue}
-use Rattle.residue.specs.Rows.{rows}
+use Rattle.residue_rows.specs.Rows.{rows}
 use Rattle.residue.specs.Residues.{oneOf, isThree, isOne}
 use Rattle.residue.specs.Reading.{residueLen, threesLen, residuesLen}
 use Rattle.grammar.specs.Texts.{Text, allLetters}

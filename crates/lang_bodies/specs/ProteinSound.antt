@@ -24,7 +24,7 @@ use Rattle.lang.specs.Lang.{Front, rest-is}
 use Rattle.lang.specs.IntervalLang.{FollowsInterval, parseInterval}
 use Rattle.lang.specs.Canon.{map-some}
 use Rattle.lang.specs.Whole.{nothing-behind}
-use Rattle.residue.specs.Rows.{rows}
+use Rattle.residue_rows.specs.Rows.{rows}
 use Rattle.residue.specs.Residues.{oneOf, isThree, isOne}
 use Rattle.residue.specs.Reading.{residueLen}
 use Rattle.lang_locations.specs.Parse.{parseResidual}

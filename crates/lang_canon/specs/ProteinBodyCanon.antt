@@ -18,7 +18,7 @@ use Rattle.numerals.specs.Digits.{valFrom, val, decUpTo}
 use Rattle.numerals.specs.Decimals.{next-best}
 use Rattle.numerals.specs.Reading.{orZero}
 use Rattle.numerals.specs.Signs.{or-zero-fit}
-use Rattle.residue.specs.Rows.{rows}
+use Rattle.residue_rows.specs.Rows.{rows}
 use Rattle.residue.specs.Residues.{oneOf, isThree, isResidue}
 use Rattle.record.specs.declared.Kind.the-variants.{Prot}
 use Rattle.grammar.specs.Shapes.{Interval.one, Interval.two, Mu, Mu.certain, Mu.uncertain, Both.both}

@@ -9,7 +9,7 @@ use Rattle.texts.specs.Ascii.{ascii}
 use Rattle.texts.specs.Tests.{clash, never, and-true, and-false}
 use Rattle.texts.specs.Words.{same, same-true}
 use Rattle.alphabet.specs.Letters.{residue}
-use Rattle.residue.specs.Rows.{rows}
+use Rattle.residue_rows.specs.Rows.{rows}
 use Rattle.residue.specs.Residues.{oneOf, isThree, isOne, isResidue}
 use Rattle.record.specs.declared.Kind.{Kind}
 use Rattle.record.specs.declared.Kind.the-variants.{Cds, Genome, Mt, Tx, Prot, Rna}

@@ -12,7 +12,7 @@ use Rattle.texts.specs.Words.{same, same-true}
 use Rattle.numerals.specs.Reading.{fits}
 use Rattle.numerals.specs.declared.Sign.the-variants.{Plain, Negated}
 use Rattle.alphabet.specs.Letters.{residue}
-use Rattle.residue.specs.Rows.{rows}
+use Rattle.residue_rows.specs.Rows.{rows}
 use Rattle.residue.specs.Residues.{oneOf, isThree, isOne, isResidue, isResidues}
 use Rattle.grammar.specs.Optional.{printOptional}
 use Rattle.grammar.specs.ProteinEdits.{Length, Length.counted, Length.unknown, Length.unsaid, Stop, Stop.stop, ExtEnd, ExtEnd.nothing, ExtEnd.later, ExtEnd.earlier, ProteinEditTree, ProteinEditTree.subst, ProteinEditTree.substUnknown, ProteinEditTree.equal, ProteinEditTree.del, ProteinEditTree.dup, ProteinEditTree.ins, ProteinEditTree.delIns, ProteinEditTree.fs, ProteinEditTree.ext, printTerminal, WfProteinEdit}

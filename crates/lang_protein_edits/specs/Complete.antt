@@ -15,7 +15,7 @@ use Rattle.texts.specs.Tests.{and-true, never, clash}
 use Rattle.texts.specs.Runs.{run, run-is, run-first, front-is}
 use Rattle.texts.specs.Words.{starts, starts-append, same, starts-none, starts-other}
 use Rattle.alphabet.specs.Letters.{digit, residue}
-use Rattle.residue.specs.Rows.{rows}
+use Rattle.residue_rows.specs.Rows.{rows}
 use Rattle.residue.specs.Residues.{oneOf, isThree, isOne, isResidue, isResidues}
 use Rattle.residue.specs.Reading.{residueLen, continues}
 use Rattle.residue.specs.ResiduesRead.{residue-complete, residue-some, residue-first, residue-stop, residues-complete, residues-some, words-behind, continues-digits, continues-first}

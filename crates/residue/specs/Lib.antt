@@ -1,4 +1,3 @@
-pub mod Rows
 pub mod Residues
 pub mod Reading
 pub mod ResiduesRead

@@ -6,7 +6,7 @@ use lib.Dec.{eqb}
 use lib.ListN.{take, drop}
 use Rattle.texts.specs.Runs.{run}
 use Rattle.alphabet.specs.Letters.{residue}
-use Rattle.residue.specs.Rows.{rows}
+use Rattle.residue_rows.specs.Rows.{rows}
 use Rattle.residue.specs.Residues.{oneOf, isThree, isOne}
 
 -- three letters, else one

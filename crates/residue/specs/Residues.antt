@@ -7,7 +7,7 @@ use lib.ListN.{length}
 use Rattle.texts.specs.Runs.{every}
 use Rattle.texts.specs.Words.{same}
 use Rattle.alphabet.specs.Letters.{residue}
-use Rattle.residue.specs.Rows.{rows}
+use Rattle.residue_rows.specs.Rows.{rows}
 
 unfoldable pub oneOf : List (List ℕ) → List ℕ → Bool
 oneOf [] s = false

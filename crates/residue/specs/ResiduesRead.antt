@@ -1,7 +1,7 @@
 -- Laws of residues: what is read at the front of a text is a residue, and each residue is read.
 use Prim.Native.Nat.{ℕ, zero, suc, _+_, _≤_}
 use mathlib.Core.Path.{_≡_, refl, sym, _∙_}
-use mathlib.Core.Bool.{Bool, true, false, cond, not, _&&_, _||_}
+use mathlib.Core.Bool.{Bool, true, false, cond, not, _||_}
 use mathlib.Core.List.{List, [], _∷_, _++_, map, append-nil}
 use mathlib.Core.Logic.{_⊎_, inl, inr, ⊎-elim}
 use native.Mathlib.Omega.{arith}
@@ -16,15 +16,12 @@ use Rattle.texts.specs.Runs.{every, every-append, every-wider, one-every, Some,
 use Rattle.texts.specs.Words.{same, same-true}
 use Rattle.alphabet.specs.Letters.{among, digit, residue}
 use Rattle.alphabet.specs.Apart.{none-among}
-use Rattle.residue.specs.Rows.{rows}
+use Rattle.residue_rows.specs.Rows.{rows}
+use Rattle.residue_rows.specs.EachRow.{each, long, rows-long}
 use Rattle.residue.specs.Residues.{oneOf, isThree, isOne, isResidue, threes, isResidues}
 use Rattle.residue.specs.Reading.{residueLen, threesLen, residuesLen, continues}
 
 -- ---- one of some texts passes what each of them passes
-abbrev pub each : (List ℕ → Bool) → List (List ℕ) → Bool
-each p [] = true
-each p (r ∷ rs) = p r && each p rs
-
 one-of-each : (p : List ℕ → Bool) (rs : List (List ℕ)) (s : List ℕ) → each p rs ≡ true → oneOf rs s ≡ true → p s ≡ true
 unfolding oneOf
 one-of-each p [] s e h = absurd (clash h refl)
@@ -38,8 +35,8 @@ headed p [] = false
 headed p (b ∷ s) = p b
 
 pub three-length : (s : List ℕ) → isThree s ≡ true → length s ≡ 3
-unfolding isThree rows
-three-length s h = eqb-true (length s) 3 (one-of-each (λ r. eqb (length r) 3) rows s refl h)
+unfolding isThree
+three-length s h = eqb-true (length s) 3 (one-of-each long rows s rows-long h)
 
 three-first : (b : ℕ) (s : List ℕ) → isThree (b ∷ s) ≡ true → residue b ≡ true
 unfolding isThree rows residue

@@ -2,7 +2,7 @@
 use Rattle.residue.specs.Residues.{isResidue}
 use Rattle.residue.specs.Reading.{residueLen}
 use Rattle.residue.specs.ResiduesRead.{residue-some, residue-whole, residue-sound}
-use Rattle.residue.proofs.RowSearch.{whole-empty, whole}
+use Rattle.residue.proofs.ResiduesFound.{whole-empty, whole}
 use borrow.Author.Needs.{needs}
 use Rattle.residue.proofs.is_residue.Statement.{statement}
 use Rattle.residue.proofs.is_residue.Tie as tie

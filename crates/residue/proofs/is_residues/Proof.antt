@@ -2,7 +2,7 @@
 use Rattle.residue.specs.Residues.{isResidues}
 use Rattle.residue.specs.Reading.{residuesLen}
 use Rattle.residue.specs.ResiduesRead.{residues-some, residues-whole, residues-sound}
-use Rattle.residue.proofs.RowSearch.{whole-empty, whole}
+use Rattle.residue.proofs.ResiduesFound.{whole-empty, whole}
 use borrow.Author.Needs.{needs}
 use Rattle.residue.proofs.is_residues.Statement.{statement}
 use Rattle.residue.proofs.is_residues.Tie as tie

@@ -2,7 +2,7 @@
 use mathlib.Core.Path.{sym, _∙_}
 use mathlib.Core.Bool.{true, false}
 use Rattle.alphabet.specs.Classes.{member}
-use Rattle.residue.proofs.RowSearch.{row-three, len-three, len-empty, len-one}
+use Rattle.residue.proofs.ResiduesFound.{row-three, len-three, len-empty, len-one}
 use borrow.Author.Needs.{needs}
 use Rattle.residue.proofs.residue_at.Statement.{statement}
 use Rattle.residue.proofs.residue_at.Tie as tie

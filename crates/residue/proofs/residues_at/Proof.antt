@@ -1,6 +1,6 @@
 -- Residues of three letters where there is one, else residues of one.
 use Rattle.alphabet.specs.Classes.{member}
-use Rattle.residue.proofs.RowSearch.{len-threes, len-ones}
+use Rattle.residue.proofs.ResiduesFound.{len-threes, len-ones}
 use borrow.Author.Needs.{needs}
 use Rattle.residue.proofs.residues_at.Statement.{statement}
 use Rattle.residue.proofs.residues_at.Tie as tie

@@ -5,7 +5,7 @@ use native.Mathlib.Omega.{arith}
 use lib.ListN.{length, drop}
 use borrow.Author.Needs.{needs}
 use Rattle.residue.specs.Reading.{threesLen}
-use Rattle.residue.proofs.RowSearch.{row-three-from, three-from-le, more-threes, end-threes}
+use Rattle.residue.proofs.ResiduesFound.{row-three-from, three-from-le, more-threes, end-threes}
 use Rattle.residue.proofs.threes_at.Statement.{statement}
 use Rattle.residue.proofs.threes_at.Tie as tie
 

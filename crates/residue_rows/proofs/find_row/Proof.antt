@@ -6,10 +6,10 @@ use native.Mathlib.Omega.{arith}
 use lib.ListN.{drop, getD}
 use borrow.Author.Needs.{needs}
 use Rattle.texts.specs.Words.{starts}
-use Rattle.residue.specs.Rows.{rows, firstFrom, rowOf}
-use Rattle.residue.proofs.RowSearch.{same-byte, other-byte, last-byte, next-row, this-row, last-row, short-none}
-use Rattle.residue.proofs.find_row.Statement.{statement}
-use Rattle.residue.proofs.find_row.Tie as tie
+use Rattle.residue_rows.specs.Rows.{rows, firstFrom, rowOf}
+use Rattle.residue_rows.proofs.RowSearch.{same-byte, other-byte, last-byte, next-row, this-row, last-row, short-none}
+use Rattle.residue_rows.proofs.find_row.Statement.{statement}
+use Rattle.residue_rows.proofs.find_row.Tie as tie
 
 abbrev Inv-loop : tie.InvT-loop
 Inv-loop s table i j₀ j = (j < 3) × (starts (getD rows i []) s ≡ starts (drop j (getD rows i [])) (drop j s))

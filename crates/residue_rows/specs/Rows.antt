@@ -4,8 +4,8 @@ use mathlib.Core.Bool.{cond}
 use mathlib.Core.List.{List, [], _∷_}
 use Rattle.texts.specs.Ascii.{ascii}
 use Rattle.texts.specs.Words.{starts}
-use Rattle.residue.specs.declared.RowFound.{RowFound}
-use Rattle.residue.specs.declared.RowFound.the-variants.{Row, Nothing}
+use Rattle.residue_rows.specs.declared.RowFound.{RowFound}
+use Rattle.residue_rows.specs.declared.RowFound.the-variants.{Row, Nothing}
 
 unfoldable pub rows : List (List ℕ)
 rows =
