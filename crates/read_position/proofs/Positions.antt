@@ -1,34 +1,31 @@
 -- The clauses of the parsers of positions, by the tests that the program makes, and the answer for each.
-use Prim.Native.Nat.{ℕ, suc, _+_, _-_, _≤_}
-use mathlib.Core.Path.{_≡_, refl, sym, ap, _∙_}
+use Prim.Native.Nat.{ℕ, _+_, _-_, _≤_}
+use mathlib.Core.Path.{_≡_, sym, ap, _∙_}
 use mathlib.Core.List.{List, [], _∷_, _++_}
 use mathlib.Core.Option.{none, some}
-use mathlib.Core.Bool.{Bool, true, false, cond}
+use mathlib.Core.Bool.{true, false, cond}
 use native.Mathlib.Omega.{arith}
 use mir.Syntax.{w32}
 use mir.Val.{toZ, ofZ}
-use lib.Dec.{eqb}
 use lib.IntN.{pos}
 use lib.ListN.{length, take, drop, length-append, length-drop}
 use lib.Seq.{drop-drop, length-take-le}
-use borrow.Author.Tests.{eq-eqb, ne-eqb}
+use borrow.Author.Tests.{ne-eqb}
 use Rattle.texts.specs.Ascii.{ascii}
 use Rattle.texts.specs.Runs.{run, front, behind, front-length}
 use Rattle.texts.specs.Slices.{tail-part}
 use Rattle.texts.specs.Words.{starts}
 use Rattle.alphabet.specs.Letters.{digit}
-use Rattle.numerals.specs.declared.Sign.{Sign}
-use Rattle.numerals.specs.declared.Sign.the-variants.{Plain, Minus}
+use Rattle.numerals.specs.declared.Sign.the-variants.{Plain}
 use Rattle.numerals.specs.declared.Number.{Number}
 use Rattle.numerals.specs.Reading.{numberAt}
 use Rattle.residue.specs.Reading.{residueLen}
 use Rattle.residue.specs.ResiduesRead.{residue-le}
 use Rattle.record.specs.declared.Span.{Span}
-use Rattle.record.specs.declared.Offset.the-variants.{Absent, By}
 use Rattle.record.specs.declared.Kind.{Kind}
 use Rattle.record.specs.declared.Kind.the-variants.{Cds, Genome, Prot}
 use Rattle.grammar.specs.Positions as Tree
-use Rattle.grammar.specs.Positions.{Mark.bare, Mark.plus, Mark.minus, Mark.star, OffsetTree, OffsetTree.absent, OffsetTree.ahead, OffsetTree.back, Based.based, Genomic.known, Genomic.unknown, Residual.residual, printMark, printOffset}
+use Rattle.grammar.specs.Positions.{OffsetTree, Based.based, Genomic.known, Genomic.unknown, Residual.residual, printMark, printOffset}
 use Rattle.grammar.specs.Meaning.{number, signOf}
 use Rattle.grammar.specs.Records.{span}
 use Rattle.grammar.specs.Numbers.{Numeral.numeral, offsetNumbers}
@@ -36,83 +33,25 @@ use Rattle.read_scan.specs.Accounts.{answered}
 use Rattle.read_scan.specs.declared.Faults.{Faults}
 use Rattle.read_scan.specs.Reading.{number-run, number-len, number-le, number-value, number-faults}
 use Rattle.read_scan.specs.Faults.{faults, none as noFault, ofNumber, first, settledIf, faults-nil, faults-append, settled-only}
-use Rattle.lang_locations.specs.Parse.{onDigits, parseMark, parseOffset, parseBased, parseGenomic, parseResidual}
+use Rattle.lang_locations.specs.Parse.{parseMark, parseOffset, parseBased, parseGenomic, parseResidual}
 use Rattle.lang_locations.specs.Sound.{digits-none, digits-some, mark-split, offset-sound}
 use Rattle.lang_locations.specs.Settled.{plainMark}
 use Rattle.any_location.specs.declared.Position.{Position}
+use Rattle.read_mark_offset.specs.declared.MarkRead.{MarkRead}
+use Rattle.read_mark_offset.specs.declared.OffsetRead.{OffsetRead}
+use Rattle.read_mark_offset.specs.MarkOffsetAnswers.{markOf, offsetAnswer}
 use Rattle.read_position.specs.declared.PositionRead.the-variants.{Nothing, Found}
-use Rattle.read_position.specs.declared.MarkRead.{MarkRead}
-use Rattle.read_position.specs.declared.OffsetRead.{OffsetRead}
 use Rattle.read_position.specs.Forms.{isBarred, parseBasedFor}
 use Rattle.any_location.specs.OfTree.{plainOf, basedOf}
-use Rattle.read_position.specs.PositionAnswers.{positionAnswer, markOf, offsetAnswer, offsetBehind}
+use Rattle.read_position.specs.PositionAnswers.{positionAnswer}
 
--- ---- marks
-module _ (s : List ℕ) where
-  pub mark-plus : starts (ascii "+") s ≡ true → markOf plus ≡ markOf (parseMark s)
-  unfolding parseMark
-  mark-plus p = rw p
+-- ---- the lengths of a mark and of an offset
+mark-le : (s : List ℕ) → length (printMark (parseMark s)) ≤ length s
+mark-le s = omega (arith, simp length-append at (ap length (mark-split s)))
 
-  pub mark-minus : starts (ascii "+") s ≡ false → starts (ascii "-") s ≡ true → markOf minus ≡ markOf (parseMark s)
-  unfolding parseMark
-  mark-minus p m = rw (p, m)
-
-  pub mark-star : starts (ascii "+") s ≡ false → starts (ascii "-") s ≡ false → starts (ascii "*") s ≡ true → markOf star ≡ markOf (parseMark s)
-  unfolding parseMark
-  mark-star p m e = rw (p, m, e)
-
-  pub mark-bare : starts (ascii "+") s ≡ false → starts (ascii "-") s ≡ false → starts (ascii "*") s ≡ false → markOf bare ≡ markOf (parseMark s)
-  unfolding parseMark
-  mark-bare p m e = rw (p, m, e)
-
-  pub mark-le : length (printMark (parseMark s)) ≤ length s
-  mark-le = omega (arith, simp length-append at (ap length (mark-split s)))
-
--- ---- offsets
-pub offset-none : (at : ℕ) (f : Faults) → f ≡ noFault → _≡_ {A = OffsetRead} (record { offset = Absent; len = 0; faults = f }) (offsetAnswer at absent)
+offset-le : (at : ℕ) (s : List ℕ) → offsetAnswer at (parseOffset s) .len ≤ length s
 unfolding offsetAnswer
-offset-none at f e = rw (e, faults-nil)
-
--- s stands behind the sign
-module _ (at : ℕ) (sign : Sign) (s : List ℕ) (n : Number) (e : n ≡ numberAt sign s) where
-  pub behind-none : n .len ≡ 0 → offsetAnswer at absent ≡ offsetBehind at sign s
-  unfolding offsetBehind
-  behind-none z = rw (eq-eqb (run digit s) 0 (sym (number-run sign s n e) ∙ z))
-
-  pub behind-some : (n .len ≡ 0 → ⊥) → (f : Faults) → f ≡ ofNumber (n .fits) (n .plain) (at + 1)
-      → _≡_ {A = OffsetRead} (record { offset = By (toZ w32 (ofZ w32 (n .value))); len = 1 + n .len; faults = f }) (offsetBehind at sign s)
-  unfolding offsetBehind
-  behind-some z f ef =
-      let l = number-run sign s n e in
-      rw (ne-eqb (run digit s) 0 (λ q. z (l ∙ q)), number-value sign s n e, l, ef, number-faults sign s n e (at + 1))
-
--- what stands behind the sign, as an offset
-behind-by : (at : ℕ) (sign : Sign) (by : List ℕ → OffsetTree) (s : List ℕ)
-    → ((ds : List ℕ) → offsetAnswer at (by ds) ≡ record { offset = By (number sign ds); len = suc (length ds); faults = faults (numeral (at + 1) sign ds ∷ []) true })
-    → offsetBehind at sign s ≡ offsetAnswer at (onDigits absent by s)
-unfolding offsetBehind onDigits
-behind-by at sign by s is = go (eqb (run digit s) 0)
-  where
-    go : (t : Bool) → cond t (offsetAnswer at absent) (record { offset = By (number sign (front digit s)); len = 1 + run digit s; faults = faults (numeral (at + 1) sign (front digit s) ∷ []) true }) ≡ offsetAnswer at (cond t absent (by (front digit s)))
-    go true = refl
-    go false = let l : 1 + run digit s ≡ suc (length (front digit s)) = omega (arith, front-length digit s) in rw (is (front digit s), l)
-
-module _ (at : ℕ) (s : List ℕ) where
-  pub offset-ahead : starts (ascii "+") s ≡ true → offsetBehind at Plain (take (length s - 1) (drop 1 s)) ≡ offsetAnswer at (parseOffset s)
-  unfolding parseOffset offsetAnswer
-  offset-ahead p = rw (tail-part 1 s, p) (behind-by at Plain ahead (drop 1 s) (λ ds. refl))
-
-  pub offset-back : starts (ascii "+") s ≡ false → starts (ascii "-") s ≡ true → offsetBehind at Minus (take (length s - 1) (drop 1 s)) ≡ offsetAnswer at (parseOffset s)
-  unfolding parseOffset offsetAnswer
-  offset-back p m = rw (tail-part 1 s, p, m) (behind-by at Minus back (drop 1 s) (λ ds. refl))
-
-  pub offset-missing : starts (ascii "+") s ≡ false → starts (ascii "-") s ≡ false → offsetAnswer at absent ≡ offsetAnswer at (parseOffset s)
-  unfolding parseOffset
-  offset-missing p m = rw (p, m)
-
-  offset-le : offsetAnswer at (parseOffset s) .len ≤ length s
-  unfolding offsetAnswer
-  offset-le = omega (arith, simp length-append at (ap length (offset-sound s .text)))
+offset-le at s = omega (arith, simp length-append at (ap length (offset-sound s .text)))
 
 -- ---- c, n, r
 based-found : (at : ℕ) (m : Tree.Mark) (ds : List ℕ) (o : OffsetTree)

@@ -2,31 +2,20 @@
 use any_location::Position;
 use numerals::Sign;
 use read_scan::Faults;
-use record::CdsFrom;
 use record::Kind;
-use record::Offset;
 ghost use mathlib.Core.Path.{_≡_};
 ghost use Prim.Native.Nat.{_+_, _≤_};
 ghost use lib.ListN.{length};
 ghost use Rattle.alphabet.specs.Cells.{IsTable};
 ghost use Rattle.record.specs.declared.Kind.the-variants.{Cds, Genome, Prot};
-ghost use Rattle.grammar.specs.Positions.{OffsetTree.absent};
-ghost use Rattle.lang_locations.specs.Parse.{parseMark, parseOffset, parseBased, parseGenomic, parseResidual, parsePosition};
+ghost use Rattle.lang_locations.specs.Parse.{parseBased, parseGenomic, parseResidual, parsePosition};
 ghost use Rattle.read_position.specs.Forms.{isStarred, isBarred, parseBasedFor, formOf};
-ghost use Rattle.read_position.specs.PositionAnswers.{markOf, offsetAnswer, offsetBehind, positionAnswer};
+ghost use Rattle.read_position.specs.PositionAnswers.{positionAnswer};
 
 // The position, how long its text is, and what is wrong with its numbers.
 pub enum PositionRead {
     Nothing,
     Found(Position, usize, Faults),
-}
-
-// What stands before the digits of a base: how long it is, what it says, and whether it is plainly spelled.
-struct MarkRead {
-    len: usize,
-    sign: Sign,
-    cds_from: CdsFrom,
-    plain: bool,
 }
 
 // How a kind writes its positions: a base with or without an offset; digits, or `?`; a residue with digits.
@@ -36,92 +25,12 @@ enum Form {
     Residual,
 }
 
-struct OffsetRead {
-    offset: Offset,
-    len: usize,
-    faults: Faults,
-}
-
-fn mark_at(s: &[u8]) -> MarkRead
-    ensures { λ r. ⌜ r ≡ markOf (parseMark (now (s .entry))) ⌝ }
-{
-    if words::begins(s, b"+") {
-        return MarkRead {
-            len: 1,
-            sign: Sign::Plain,
-            cds_from: CdsFrom::Start,
-            plain: false,
-        };
-    }
-    if words::begins(s, b"-") {
-        return MarkRead {
-            len: 1,
-            sign: Sign::Minus,
-            cds_from: CdsFrom::Start,
-            plain: true,
-        };
-    }
-    if words::begins(s, b"*") {
-        return MarkRead {
-            len: 1,
-            sign: Sign::Plain,
-            cds_from: CdsFrom::End,
-            plain: true,
-        };
-    }
-    MarkRead {
-        len: 0,
-        sign: Sign::Plain,
-        cds_from: CdsFrom::Start,
-        plain: true,
-    }
-}
-
-fn no_offset(at: usize) -> OffsetRead
-    ensures { λ r. ⌜ r ≡ offsetAnswer at absent ⌝ }
-{
-    OffsetRead {
-        offset: Offset::Absent,
-        len: 0,
-        faults: read_scan::no_faults(),
-    }
-}
-
-// Behind the sign of an offset that stands at `at`.
-fn offset_behind(table: &[u8; 256], s: &[u8], at: usize, sign: Sign) -> OffsetRead
-    requires { ⌜ (at + 1 + length (now s) ≤ 4096) × IsTable (now table) ⌝ }
-    ensures { λ r. ⌜ r ≡ offsetBehind at sign (now (s .entry)) ⌝ }
-{
-    let n = read_number::number_at(table, s, sign);
-    if n.len == 0 {
-        return no_offset(at);
-    }
-    OffsetRead {
-        offset: Offset::By(n.value),
-        len: 1 + n.len,
-        faults: read_scan::faults_of(at + 1, n),
-    }
-}
-
-fn offset_at(table: &[u8; 256], s: &[u8], at: usize) -> OffsetRead
-    requires { ⌜ (at + length (now s) ≤ 4096) × IsTable (now table) ⌝ }
-    ensures { λ r. ⌜ r ≡ offsetAnswer at (parseOffset (now (s .entry))) ⌝ }
-{
-    if words::begins(s, b"+") {
-        return offset_behind(table, &s[1..], at, Sign::Plain);
-    }
-    if words::begins(s, b"-") {
-        return offset_behind(table, &s[1..], at, Sign::Minus);
-    }
-    no_offset(at)
-}
-
 // c: a mark, digits, an offset.
 fn cds_pos(table: &[u8; 256], s: &[u8], at: usize) -> PositionRead
     requires { ⌜ (at + length (now s) ≤ 4096) × IsTable (now table) ⌝ }
     ensures { λ r. ⌜ r ≡ positionAnswer Cds at (parseBased (now (s .entry))) ⌝ }
 {
-    let m = mark_at(s);
+    let m = read_mark_offset::mark_at(s);
     let k = m.len;
     let sign = m.sign;
     let n = read_number::number_at(table, &s[k..], sign);
@@ -129,7 +38,7 @@ fn cds_pos(table: &[u8; 256], s: &[u8], at: usize) -> PositionRead
         return PositionRead::Nothing;
     }
     let e = k + n.len;
-    let o = offset_at(table, &s[e..], at + e);
+    let o = read_mark_offset::offset_at(table, &s[e..], at + e);
     let cds_from = m.cds_from;
     let offset = o.offset;
     let later = o.faults;

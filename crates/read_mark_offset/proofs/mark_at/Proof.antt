@@ -2,10 +2,10 @@ use mathlib.Core.Path.{_≡_, sym, _∙_}
 use mathlib.Core.Bool.{false}
 use Rattle.texts.specs.Ascii.{ascii}
 use Rattle.texts.specs.Words.{starts}
-use Rattle.read_position.proofs.Positions.{mark-plus, mark-minus, mark-star, mark-bare}
+use Rattle.read_mark_offset.proofs.MarkOffsetCases.{mark-plus, mark-minus, mark-star, mark-bare}
 use borrow.Author.Needs.{needs}
-use Rattle.read_position.proofs.mark_at.Statement.{statement}
-use Rattle.read_position.proofs.mark_at.Tie as tie
+use Rattle.read_mark_offset.proofs.mark_at.Statement.{statement}
+use Rattle.read_mark_offset.proofs.mark_at.Tie as tie
 
 no-plus : (c : tie.Else1) → starts (ascii "+") (c .before .before .before .before .args .s .now) ≡ false
 no-plus c = sym (c .before .begins .ensures) ∙ c .if1 .left

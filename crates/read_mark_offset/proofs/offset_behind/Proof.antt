@@ -1,10 +1,10 @@
 use mathlib.Core.Path.{_∙_}
 use native.Mathlib.Omega.{arith}
 use Rattle.read_scan.specs.Reading.{number-le}
-use Rattle.read_position.proofs.Positions.{behind-none, behind-some}
+use Rattle.read_mark_offset.proofs.MarkOffsetCases.{behind-none, behind-some}
 use borrow.Author.Needs.{needs}
-use Rattle.read_position.proofs.offset_behind.Statement.{statement}
-use Rattle.read_position.proofs.offset_behind.Tie as tie
+use Rattle.read_mark_offset.proofs.offset_behind.Statement.{statement}
+use Rattle.read_mark_offset.proofs.offset_behind.Tie as tie
 
 number-at-requires : tie.Need-number-at-requires
 number-at-requires c κs = search needs

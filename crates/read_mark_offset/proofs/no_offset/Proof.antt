@@ -1,7 +1,7 @@
-use Rattle.read_position.proofs.Positions.{offset-none}
+use Rattle.read_mark_offset.proofs.MarkOffsetCases.{offset-none}
 use borrow.Author.Needs.{needs}
-use Rattle.read_position.proofs.no_offset.Statement.{statement}
-use Rattle.read_position.proofs.no_offset.Tie as tie
+use Rattle.read_mark_offset.proofs.no_offset.Statement.{statement}
+use Rattle.read_mark_offset.proofs.no_offset.Tie as tie
 
 no-faults-requires : tie.Need-no-faults-requires
 no-faults-requires c κs = search needs

@@ -3,10 +3,10 @@ use mathlib.Core.Bool.{true, false}
 use Rattle.texts.specs.Ascii.{ascii}
 use Rattle.texts.specs.Words.{starts, starts-length}
 use Rattle.texts.specs.Slices.{tail-room}
-use Rattle.read_position.proofs.Positions.{offset-ahead, offset-back, offset-missing}
+use Rattle.read_mark_offset.proofs.MarkOffsetCases.{offset-ahead, offset-back, offset-missing}
 use borrow.Author.Needs.{needs}
-use Rattle.read_position.proofs.offset_at.Statement.{statement}
-use Rattle.read_position.proofs.offset_at.Tie as tie
+use Rattle.read_mark_offset.proofs.offset_at.Statement.{statement}
+use Rattle.read_mark_offset.proofs.offset_at.Tie as tie
 
 ahead : (c : tie.Then1) → starts (ascii "+") (c .before .before .before .before .args .s .now) ≡ true
 ahead c = sym (c .before .begins .ensures) ∙ c .if1 .taken
