@@ -41,9 +41,8 @@ use Rattle.read_header.specs.HeaderAnswers.{headerAnswer, kindAnswer}
 use Rattle.read_na_body.specs.declared.BodyRead.{BodyRead}
 use Rattle.read_na_body.specs.declared.BodyRead.the-variants as BR
 use Rattle.read_na_body.specs.NaBodyAnswers.{naAnswer, bodyAnswer, answer-Cds, answer-Genome, answer-Mt, answer-Tx, answer-Rna}
-use Rattle.read_text.specs.declared.TextRead.the-variants.{Nothing, Found}
 use Rattle.lang_na_edits.specs.Alphabet.{alphabets}
-use Rattle.read_text.specs.TextAnswers.{isProtein, textAnswer}
+use Rattle.read_text.specs.TextAnswers.{isProtein, TextFound.nothing, TextFound.found, textAnswer}
 
 -- ---- the body of each kind
 abbrev NaSays : ℕ → List ℕ → BodyRead → Kind → Type 0
@@ -80,7 +79,7 @@ pub header-told : (s : List ℕ) (h : Record.Header) (n : ℕ) → HR.Found h n 
 unfolding headerAnswer
 header-told s h n e = by-answer (headerAnswer 0) (headerLang .parse s) e (λ q z. absurd (let y : _≡_ {A = ℕ} 0 1 = cc in omega arith)) (λ t q z. record { tree = t; parsed = q; means = cc; long = cc })
 
-pub no-header : (s : List ℕ) → HR.Nothing ≡ headerAnswer 0 (headerLang .parse s) → Nothing ≡ textAnswer (parseText allLetters alphabets s)
+pub no-header : (s : List ℕ) → HR.Nothing ≡ headerAnswer 0 (headerLang .parse s) → nothing ≡ textAnswer (parseText allLetters alphabets s)
 unfolding headerAnswer textAnswer parseText parseBoth
 no-header s e = by-answer (headerAnswer 0) (headerLang .parse s) e (λ q z. rw (q, parseText, parseBoth)) (λ t q z. absurd (let y : _≡_ {A = ℕ} 0 1 = cc in omega arith))
 
@@ -95,7 +94,7 @@ module _ (s : List ℕ) {h : Record.Header} {n : ℕ} (x : HeaderTold s h n) whe
   rest : take (length s - n) (drop n s) ≡ drop (length (printHeader (x .tree))) s
   rest = tail-at s (x .long)
 
-  pub no-kind : KR.Nothing ≡ kindAnswer (kindLang .parse (take (length s - n) (drop n s))) → Nothing ≡ textAnswer (parseText allLetters alphabets s)
+  pub no-kind : KR.Nothing ≡ kindAnswer (kindLang .parse (take (length s - n) (drop n s))) → nothing ≡ textAnswer (parseText allLetters alphabets s)
   unfolding kindAnswer textAnswer parseText parseBoth
   no-kind e =
       by-answer kindAnswer (kindLang .parse (take (length s - n) (drop n s))) e (λ q z. rw (x .parsed, parseText, parseBoth, rw rest at q))
@@ -117,7 +116,7 @@ module _ (s : List ℕ) {h : Record.Header} {n : ℕ} (x : HeaderTold s h n) whe
     unfolding parseText
     text-is = rw (heading, heading-long, tail-part (n + 3) s)
 
-    body-answer : (o : Option (BodyTree k)) → (b : AnyBody) (f : Faults) → BR.Found b f ≡ bodyAnswer k (n + 3) o → Found h b f ≡ textAnswer (mapO (text (x .tree) k) o)
+    body-answer : (o : Option (BodyTree k)) → (b : AnyBody) (f : Faults) → BR.Found b f ≡ bodyAnswer k (n + 3) o → found h b f ≡ textAnswer (mapO (text (x .tree) k) o)
     unfolding bodyAnswer textAnswer
     body-answer none b f e = absurd (let z : _≡_ {A = ℕ} 0 1 = cc in omega arith)
     body-answer (some t) b f e =
@@ -127,12 +126,12 @@ module _ (s : List ℕ) {h : Record.Header} {n : ℕ} (x : HeaderTold s h n) whe
         let j : n + 3 ≡ 0 + length (printHeader (x .tree)) + length (printKind k) = omega (arith, x .long, kind-length k) in
         rw (a, c, m, j)
 
-    pub no-body : BR.Nothing ≡ bodyAnswer k (n + 3) (parseBody allLetters alphabets k (take (length s - (n + 3)) (drop (n + 3) s))) → Nothing ≡ textAnswer (parseText allLetters alphabets s)
+    pub no-body : BR.Nothing ≡ bodyAnswer k (n + 3) (parseBody allLetters alphabets k (take (length s - (n + 3)) (drop (n + 3) s))) → nothing ≡ textAnswer (parseText allLetters alphabets s)
     unfolding bodyAnswer textAnswer
     no-body e =
         by-answer (bodyAnswer k (n + 3)) (parseBody allLetters alphabets k (take (length s - (n + 3)) (drop (n + 3) s))) e
         (λ q z. sym (text-is ∙ ap (λ (o : Option (BodyTree k)). textAnswer (mapO (text (x .tree) k) o)) q))
         (λ t q z. absurd (let y : _≡_ {A = ℕ} 0 1 = cc in omega arith))
 
-    pub text-found : (b : AnyBody) (f : Faults) → BR.Found b f ≡ bodyAnswer k (n + 3) (parseBody allLetters alphabets k (take (length s - (n + 3)) (drop (n + 3) s))) → Found h b f ≡ textAnswer (parseText allLetters alphabets s)
+    pub text-found : (b : AnyBody) (f : Faults) → BR.Found b f ≡ bodyAnswer k (n + 3) (parseBody allLetters alphabets k (take (length s - (n + 3)) (drop (n + 3) s))) → found h b f ≡ textAnswer (parseText allLetters alphabets s)
     text-found b f e = body-answer (parseBody allLetters alphabets k (take (length s - (n + 3)) (drop (n + 3) s))) b f e ∙ sym text-is

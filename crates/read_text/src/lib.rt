@@ -3,9 +3,9 @@ use any_body::AnyBody;
 use read_header::HeaderRead;
 use read_header::KindRead;
 use read_na_body::BodyRead;
-use read_scan::Faults;
 use record::Header;
 use record::Kind;
+use record::Refusal;
 ghost use mathlib.Core.Path.{_≡_};
 ghost use Prim.Native.Nat.{_+_, _≤_};
 ghost use lib.ListN.{length};
@@ -13,14 +13,16 @@ ghost use Rattle.alphabet.specs.Cells.{IsTable};
 ghost use Rattle.grammar.specs.Texts.{allLetters};
 ghost use Rattle.lang_na_edits.specs.Alphabet.{alphabets};
 ghost use Rattle.lang_bodies.specs.BodyLang.{parseBody};
-ghost use Rattle.lang_bodies.specs.WholeText.{parseText};
 ghost use Rattle.read_na_body.specs.NaBodyAnswers.{bodyAnswer};
-ghost use Rattle.read_text.specs.TextAnswers.{isProtein, textAnswer};
+ghost use Rattle.read_text.specs.TextAnswers.{isProtein};
+ghost use Rattle.read_text.specs.Telling.{Tells};
 
-// A text of the grammar: the header and the body of its record, and what is wrong with its numbers.
-pub enum TextRead {
-    Nothing,
-    Found(Header, AnyBody, Faults),
+// What reading a text tells: the refusal; or the header and the body of its record. A text is settled where its spelling shows that it is the shortest text of
+// its record.
+pub enum Reading {
+    Refused(Refusal),
+    Settled(Header, AnyBody),
+    Unsettled(Header, AnyBody),
 }
 
 fn is_protein(kind: Kind) -> bool
@@ -46,20 +48,28 @@ fn body_at(table: &[u8; 256], kind: Kind, s: &[u8], at: usize) -> BodyRead
     read_na_body::na_body(table, kind, s, at)
 }
 
-// The text as a whole, digit strings of any length allowed.
-pub fn hgvs_variant(table: &[u8; 256], s: &[u8]) -> TextRead
+// A text that is not too long, digit strings of any length allowed until the whole of it is read.
+pub fn hgvs_variant(table: &[u8; 256], s: &[u8]) -> Reading
     requires { ⌜ (length (now s) ≤ 4096) × IsTable (now table) ⌝ }
-    ensures { λ r. ⌜ r ≡ textAnswer (parseText allLetters alphabets (now (s .entry))) ⌝ }
+    ensures { λ r. ⌜ Tells (now (s .entry)) r ⌝ }
 {
     let HeaderRead::Found(header, n) = read_header::header_at(table, s, 0) else {
-        return TextRead::Nothing;
+        return Reading::Refused(Refusal::NotInGrammar);
     };
     let KindRead::Found(kind) = read_header::kind_at(&s[n..]) else {
-        return TextRead::Nothing;
+        return Reading::Refused(Refusal::NotInGrammar);
     };
     let k = n + 3;
     let BodyRead::Found(body, faults) = body_at(table, kind, &s[k..], k) else {
-        return TextRead::Nothing;
+        return Reading::Refused(Refusal::NotInGrammar);
     };
-    TextRead::Found(header, body, faults)
+    let said = read_scan::verdict_of(faults);
+    let rank = said.rank;
+    if rank == read_scan::DOES_NOT_FIT {
+        return Reading::Refused(Refusal::DoesNotFit(said.place));
+    }
+    if rank == read_scan::SETTLED {
+        return Reading::Settled(header, body);
+    }
+    Reading::Unsettled(header, body)
 }

@@ -1,12 +1,14 @@
 -- What is written for a settled text: the text itself.
-use Prim.Native.Nat.{ℕ, _≤_, _<_}
+use Prim.Native.Nat.{ℕ, _≤_}
 use mathlib.Core.Path.{_≡_, sym, _∙_}
-use mathlib.Core.List.{List, _++_}
+use mathlib.Core.List.{List}
 use mathlib.Core.Option.{some}
 use mathlib.Core.Bool.{true, _&&_}
-use lib.ListN.{length, drop}
+use lib.ListN.{length}
 use Rattle.texts.specs.Tests.{and-true}
 use Rattle.record.specs.declared.HgvsVariant.{HgvsVariant}
+use Rattle.record.specs.declared.Wording.the-variants.{Shortest}
+use Rattle.record.specs.declared.WriteAnswer.{WriteAnswer}
 use Rattle.grammar.specs.Texts.{allLetters}
 use Rattle.grammar.specs.Contents.{content}
 use Rattle.grammar.specs.ContentLaw.{content-is}
@@ -16,10 +18,12 @@ use Rattle.grammar.specs.NumberLaws.{isFaultless, allPlain}
 use Rattle.lang_na_edits.specs.Alphabet.{alphabets}
 use Rattle.lang_bodies.specs.WholeText.{parseText, complete-text}
 use Rattle.lang_bodies.specs.Settled.{settledText, isSettled, parsed-settled}
-use Rattle.promise.specs.Outcome.{Outcome.given, Outcome.refused}
+use Rattle.promise.specs.Outcome.{Outcome.given, writeOutcome, limit}
 use Rattle.promise.specs.Reading.{Reads, Reads.accepted}
 use Rattle.promise.specs.Writing.{Sound, Writes, ToWrite}
 use Rattle.lang_canon.specs.Settled.{settled-shortest}
+use Rattle.emit_text.specs.Answered.{answered, left}
+use Rattle.write_any.specs.AnyWrites.{text-writes}
 
 module _ (s : List ℕ) (settled : isSettled allLetters alphabets s ≡ true) where
   pub settled-text : (v : HgvsVariant) → Reads allLetters s (given v) → ToWrite allLetters (content s v) s
@@ -32,12 +36,8 @@ module _ (s : List ℕ) (settled : isSettled allLetters alphabets s ≡ true) wh
   sound : (v : HgvsVariant) → Reads allLetters s (given v) → Sound allLetters s v
   sound v (accepted short x tree fits) = record { short = short; inside = rw (tree .text) at (spans-in-text x); text = s; reads = settled-text v (accepted short x tree fits) .reads }
 
-  short-text : (v : HgvsVariant) → Reads allLetters s (given v) → length s ≤ 4096
-  short-text v (accepted short x tree fits) = short
+  pub settled-short : (v : HgvsVariant) → Reads allLetters s (given v) → length s ≤ limit
+  settled-short v (accepted short x tree fits) = short
 
-  module _ (v : HgvsVariant) (reads : Reads allLetters s (given v)) (output : List ℕ) where
-    pub no-room : length output < length s → Writes allLetters (ToWrite allLetters) s v output (refused 6 0) output
-    no-room h = Writes.noRoom (sound v reads) s (settled-text v reads) (short-text v reads) h
-
-    pub copied : length s ≤ length output → Writes allLetters (ToWrite allLetters) s v output (given (length s)) (s ++ drop (length s) output)
-    copied h = Writes.written (sound v reads) s (settled-text v reads) (short-text v reads) h
+  pub settled-writes : (v : HgvsVariant) → Reads allLetters s (given v) → (output : List ℕ) (a : WriteAnswer) (o : List ℕ) → a ≡ answered s output → o ≡ left s output → Writes allLetters (ToWrite allLetters) s v output (writeOutcome a) o
+  settled-writes v reads output a o e f = rw (e, f) (text-writes s v output Shortest (sound v reads) s (settled-text v reads))

@@ -1,27 +1,30 @@
 // Writing the record that a text reads as: its shortest text, or the text without the reference.
 use any_body::AnyBody;
 use numbered::Answer;
-use read_bytes::Reading;
+use read_text::Reading;
 use record::Header;
 use record::Refusal;
 use record::Wording;
 use record::WriteAnswer;
+ghost use mathlib.Core.Path.{_≡_};
+ghost use Prim.Native.Nat.{_≤_};
+ghost use lib.ListN.{length};
+ghost use Rattle.record.specs.declared.Wording.the-variants.{NoRef};
 ghost use Rattle.grammar.specs.Texts.{allLetters};
 ghost use Rattle.promise.specs.Outcome.{writeOutcome};
 ghost use Rattle.promise.specs.Writing.{ToWrite};
 ghost use Rattle.promise.specs.NoRef.{NoRefText};
+ghost use Rattle.emit_text.specs.Answered.{answered, left};
+ghost use Rattle.plan_record.specs.RecordPlans.{recordPlan};
+ghost use Rattle.write_any.specs.PlanWritten.{planAnswered, planLeft};
 ghost use Rattle.numbered.specs.Numbered.{numbered};
 ghost use Rattle.numbered.specs.TextOperations.{Rewrites};
-ghost use Rattle.read_bytes.specs.Telling.{ReadAs};
 
-// The shortest text of the header and the body that the text reads as. A settled text is its own, and is copied.
-fn rewrite(text: &[u8], header: Header, b: AnyBody, settled: bool, output: &mut [u8]) -> WriteAnswer
-    requires { ⌜ ReadAs (now text) header b settled ⌝ }
-    ensures { λ r. ⌜ Rewrites (ToWrite allLetters) (now (text .entry)) (now (output .entry)) (numbered (writeOutcome r)) (now (output .exit)) ⌝ }
+// The text itself, where it has room: the shortest text of a settled one.
+fn copy(text: &[u8], output: &mut [u8]) -> WriteAnswer
+    requires { ⌜ length (now text) ≤ 4096 ⌝ }
+    ensures { λ r. ⌜ (r ≡ answered (now (text .entry)) (now (output .entry))) × (now (output .exit) ≡ left (now (text .entry)) (now (output .entry))) ⌝ }
 {
-    if !settled {
-        return write_any::write_any(text, header, b, output, Wording::Shortest);
-    }
     if output.len() < text.len() {
         return WriteAnswer::Refused(Refusal::NoRoom);
     }
@@ -34,10 +37,18 @@ pub fn shortest(text: &[u8], output: &mut [u8]) -> Answer
 {
     match read_bytes::reading_of(text) {
         Reading::Refused(why) => numbered::of_refusal(why),
-        Reading::Read(header, b, settled) => {
-            numbered::of_write(rewrite(text, header, b, settled, output))
+        Reading::Settled(_, _) => numbered::of_write(copy(text, output)),
+        Reading::Unsettled(header, b) => {
+            numbered::of_write(write_any::write_any(text, header, b, output, Wording::Shortest))
         }
     }
+}
+
+// The text of the header and the body without the reference.
+fn without_reference(text: &[u8], header: Header, b: AnyBody, output: &mut [u8]) -> Answer
+    ensures { λ r. ⌜ (r ≡ numbered (writeOutcome (planAnswered (now (text .entry)) (recordPlan (now (text .entry)) NoRef header b) (now (output .entry))))) × (now (output .exit) ≡ planLeft (now (text .entry)) (recordPlan (now (text .entry)) NoRef header b) (now (output .entry))) ⌝ }
+{
+    numbered::of_write(write_any::write_any(text, header, b, output, Wording::NoRef))
 }
 
 // Any text: it is read, and written without the reference at the front of the output.
@@ -46,8 +57,7 @@ pub fn noref(text: &[u8], output: &mut [u8]) -> Answer
 {
     match read_bytes::reading_of(text) {
         Reading::Refused(why) => numbered::of_refusal(why),
-        Reading::Read(header, b, _) => {
-            numbered::of_write(write_any::write_any(text, header, b, output, Wording::NoRef))
-        }
+        Reading::Settled(header, b) => without_reference(text, header, b, output),
+        Reading::Unsettled(header, b) => without_reference(text, header, b, output),
     }
 }

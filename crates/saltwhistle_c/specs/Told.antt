@@ -2,7 +2,7 @@
 use Prim.Native.Nat.{ℕ}
 use mathlib.Core.Path.{_≡_}
 use mathlib.Core.List.{List}
-use mathlib.Core.Bool.{Bool}
+use mathlib.Core.Bool.{Bool, true, false}
 use Rattle.record.specs.declared.Header.{Header}
 use Rattle.record.specs.declared.Refusal.{Refusal}
 use Rattle.record.specs.declared.WidthAnswer.{WidthAnswer}
@@ -16,9 +16,9 @@ use Rattle.measure_any.specs.AnyMeasures.{any-measures}
 use Rattle.numbered.specs.declared.Answer.{Answer}
 use Rattle.numbered.specs.Numbered.{bareAnswer, refusalNumbers, numbered}
 use Rattle.numbered.specs.TextOperations.{Checks, Gauges}
-use Rattle.read_bytes.specs.declared.Reading.{Reading}
-use Rattle.read_bytes.specs.declared.Reading.the-variants.{Refused, Read}
-use Rattle.read_bytes.specs.Telling.{ReadAs, Tells}
+use Rattle.read_text.specs.declared.Reading.{Reading}
+use Rattle.read_text.specs.declared.Reading.the-variants.{Refused, Settled, Unsettled}
+use Rattle.read_text.specs.Telling.{ReadAs, Tells}
 
 module _ (t : List ℕ) (r : Reading) (tells : Tells t r) (a : Answer) where
   module _ (why : Refusal) (e : r ≡ Refused why) (f : a ≡ refusalNumbers why) where
@@ -28,12 +28,23 @@ module _ (t : List ℕ) (r : Reading) (tells : Tells t r) (a : Answer) where
     pub refused-gauges : Gauges t a
     refused-gauges = rw f (Gauges.unread (numberAndPlace why .0) (numberAndPlace why .1) (rw e at tells))
 
-  module _ (h : Header) (b : AnyBody) (settled : Bool) (e : r ≡ Read h b settled) where
-    told : ReadAs t h b settled
-    told = rw e at tells
+  module _ (h : Header) (b : AnyBody) where
+    module _ (f : a ≡ bareAnswer 0 0) where
+      checks : (settled : Bool) → ReadAs t h b settled → Checks t a
+      checks settled x = rw f (Checks.checked (given (x .variant)) (x .reads))
 
-    pub read-checks : a ≡ bareAnswer 0 0 → Checks t a
-    read-checks f = rw f (Checks.checked (given (told .variant)) (told .reads))
+      pub settled-checks : r ≡ Settled h b → Checks t a
+      settled-checks e = checks true (rw e at tells)
 
-    pub read-gauges : (w : WidthAnswer) → w ≡ planMeasured (recordPlan t Shortest h b) (anyWidth b) → a ≡ numbered (widthOutcome w) → Gauges t a
-    read-gauges w g f = rw f (Gauges.measured (told .variant) (told .reads) (widthOutcome w) (any-measures t (told .variant) h b (told .header-is) (told .body-is) w g))
+      pub unsettled-checks : r ≡ Unsettled h b → Checks t a
+      unsettled-checks e = checks false (rw e at tells)
+
+    module _ (w : WidthAnswer) (g : w ≡ planMeasured (recordPlan t Shortest h b) (anyWidth b)) (f : a ≡ numbered (widthOutcome w)) where
+      gauges : (settled : Bool) → ReadAs t h b settled → Gauges t a
+      gauges settled x = rw f (Gauges.measured (x .variant) (x .reads) (widthOutcome w) (any-measures t (x .variant) h b (x .header-is) (x .body-is) w g))
+
+      pub settled-gauges : r ≡ Settled h b → Gauges t a
+      settled-gauges e = gauges true (rw e at tells)
+
+      pub unsettled-gauges : r ≡ Unsettled h b → Gauges t a
+      unsettled-gauges e = gauges false (rw e at tells)

@@ -1,6 +1,6 @@
 // For C: operations on a text, in numbers and byte slices. c/saltwhistle.h says the same to a C programmer.
 use numbered::Answer;
-use read_bytes::Reading;
+use read_text::Reading;
 ghost use Rattle.grammar.specs.Texts.{allLetters};
 ghost use Rattle.promise.specs.Writing.{ToWrite};
 ghost use Rattle.promise.specs.NoRef.{NoRefText};
@@ -11,10 +11,11 @@ ghost use Rattle.numbered.specs.TextOperations.{Checks, Rewrites, Gauges};
 pub extern "C" fn saltwhistle_check(text: &[u8]) -> Answer
     ensures { λ r. ⌜ Checks (now (text .entry)) r ⌝ }
 {
-    let Reading::Refused(why) = read_bytes::reading_of(text) else {
-        return numbered::bare(0, 0);
-    };
-    numbered::of_refusal(why)
+    match read_bytes::reading_of(text) {
+        Reading::Refused(why) => numbered::of_refusal(why),
+        Reading::Settled(_, _) => numbered::bare(0, 0),
+        Reading::Unsettled(_, _) => numbered::bare(0, 0),
+    }
 }
 
 // The text's shortest text, at the front of the output.
@@ -40,6 +41,11 @@ pub extern "C" fn saltwhistle_width(text: &[u8]) -> Answer
 {
     match read_bytes::reading_of(text) {
         Reading::Refused(why) => numbered::of_refusal(why),
-        Reading::Read(header, b, _) => numbered::of_width(measure_any::width_any(text, header, b)),
+        Reading::Settled(header, b) => numbered::of_width(measure_any::width_any(text, header, b)),
+        Reading::Unsettled(header, b) => numbered::of_width(measure_any::width_any(
+            text,
+            header,
+            b,
+        )),
     }
 }

@@ -31,9 +31,9 @@ module _ (source : List ℕ) (v : HgvsVariant) (output : List ℕ) (w : Wording)
 
   -- of a text that is wanted
   module _ (sound : Sound allLetters source v) (t : List ℕ) (wanted : Wanted allLetters w (content source v) t) where
-    answers : Answers (answered t output) (left t output)
+    pub text-writes : Answers (answered t output) (left t output)
     unfolding answered left
-    answers = go (leb (length t) limit) (leb (length t) (length output)) refl refl
+    text-writes = go (leb (length t) limit) (leb (length t) (length output)) refl refl
       where
         go : (x y : Bool) → leb (length t) limit ≡ x → leb (length t) (length output) ≡ y → Answers (answered t output) (left t output)
         go false y e f = rw (e, answered, left) (Writes.tooLong sound t wanted (leb-false (length t) limit e))
@@ -42,7 +42,7 @@ module _ (source : List ℕ) (v : HgvsVariant) (output : List ℕ) (w : Wording)
 
   said-writes : (p : TextPlan) → Says source w v p → Answers (planAnswered source p output) (planLeft source p output)
   said-writes (Refused r) says = rw (says .1) (Writes.unsound _ (says .0))
-  said-writes (Text d) says = answers (says .0) (draftText source d) (says .1)
+  said-writes (Text d) says = text-writes (says .0) (draftText source d) (says .1)
 
   module _ (h : Header) (b : AnyBody) (header-is : v .header ≡ h) (body-is : anyBody (v .body) ≡ b) where
     pub any-writes : (a : WriteAnswer) (o : List ℕ) → a ≡ planAnswered source (recordPlan source w h b) output → o ≡ planLeft source (recordPlan source w h b) output → Writes allLetters (Wanted allLetters w) source v output (writeOutcome a) o

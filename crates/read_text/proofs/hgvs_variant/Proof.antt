@@ -6,6 +6,7 @@ use lib.ListN.{length, take, drop}
 use Rattle.lang_headers.specs.Kinds.{kindLang}
 use Rattle.texts.specs.Slices.{tail-room}
 use Rattle.read_text.proofs.TextCases.{HeaderTold, header-told, no-header, header-le, kind-told, no-kind, kind-le, no-body, text-found}
+use Rattle.read_text.proofs.ReadingCases.{TextTold, text-told, reads-nothing, reads-unfit, reads-settled, reads-unsettled}
 use borrow.Author.Needs.{needs}
 use Rattle.read_text.proofs.hgvs_variant.Statement.{statement}
 use Rattle.read_text.proofs.hgvs_variant.Tie as tie
@@ -17,6 +18,10 @@ head c = header-told _ _ _ (sym (c .header .given .1) ∙ c .before .before .hea
 letter : (c : tie.After-kind) → kindLang .parse (take (length (c .before .before .before .before .before .before .before .before .before .args .s .now) - c .before .before .before .before .before .header .given .0 .1 .0) (drop (c .before .before .before .before .before .header .given .0 .1 .0) (c .before .before .before .before .before .before .before .before .before .args .s .now))) ≡ some (c .kind .given .0 .0)
 letter c = kind-told _ _ (sym (c .kind .given .1) ∙ c .before .before .kind-at .ensures)
 
+-- the text that was read
+told : (c : tie.After-body) → TextTold (c .before .before .before .before .before .before .before .before .before .before .before .before .before .before .args .s .now) (c .before .before .before .before .before .before .before .before .before .before .header .given .0 .0) (c .body .given .0 .0) (c .body .given .0 .1 .0)
+told c = text-told _ _ _ _ (text-found _ (head (c .before .before .before .before .before .before .before .before .before .before)) (letter (c .before .before .before .before .before)) _ _ (sym (c .body .given .1) ∙ c .before .before .body-at .ensures))
+
 header-at-requires : tie.Need-header-at-requires
 header-at-requires c κs = search needs
 
@@ -27,7 +32,7 @@ enum-told : tie.Need-enum-told
 enum-told c = search needs
 
 returns : tie.Need-returns
-returns c = no-header _ (sym (c .enum-told .given .1) ∙ c .before .before .header-at .ensures)
+returns c = reads-nothing _ (c .before .before .before .before .pre .0) (no-header _ (sym (c .enum-told .given .1) ∙ c .before .before .header-at .ensures))
 
 sub-kind-at : tie.Need-sub-kind-at
 sub-kind-at c = header-le _ (head (c .before))
@@ -48,7 +53,7 @@ enum-told-2 : tie.Need-enum-told-2
 enum-told-2 c = search needs
 
 returns-2 : tie.Need-returns-2
-returns-2 c = no-kind _ (head (c .before .before .before .before .before)) (sym (c .enum-told2 .given .1) ∙ c .before .before .kind-at .ensures)
+returns-2 c = reads-nothing _ (c .before .before .before .before .before .before .before .before .before .pre .0) (no-kind _ (head (c .before .before .before .before .before)) (sym (c .enum-told2 .given .1) ∙ c .before .before .kind-at .ensures))
 
 add-k : tie.Need-add-k
 add-k c = omega (arith, kind-le _ (head (c .before .before .before .before .before .before)) (letter (c .before)))
@@ -72,10 +77,28 @@ enum-told-3 : tie.Need-enum-told-3
 enum-told-3 c = search needs
 
 returns-3 : tie.Need-returns-3
-returns-3 c = no-body _ (head (c .before .before .before .before .before .before .before .before .before .before)) (letter (c .before .before .before .before .before)) (sym (c .enum-told3 .given .1) ∙ c .before .before .body-at .ensures)
+returns-3 c = reads-nothing _ (c .before .before .before .before .before .before .before .before .before .before .before .before .before .before .pre .0) (no-body _ (head (c .before .before .before .before .before .before .before .before .before .before)) (letter (c .before .before .before .before .before)) (sym (c .enum-told3 .given .1) ∙ c .before .before .body-at .ensures))
+
+verdict-of-requires : tie.Need-verdict-of-requires
+verdict-of-requires c κs = search needs
 
 returns-4 : tie.Need-returns-4
-returns-4 c = text-found _ (head (c .before .before .before .before .before .before .before .before .before .before .before)) (letter (c .before .before .before .before .before .before)) _ _ (sym (c .before .body .given .1) ∙ c .before .before .before .body-at .ensures)
+returns-4 c =
+    let v = c .before in
+    let b = v .before .before in
+    reads-unfit _ (b .before .before .before .before .before .before .before .before .before .before .before .before .before .before .pre .0) (told b) (v .verdict-of .result) (v .verdict-of .ensures) (c .if1 .taken)
+
+returns-5 : tie.Need-returns-5
+returns-5 c =
+    let v = c .before .before in
+    let b = v .before .before in
+    reads-settled _ (b .before .before .before .before .before .before .before .before .before .before .before .before .before .before .pre .0) (told b) (v .verdict-of .result) (v .verdict-of .ensures) (c .before .if1 .left) (c .if2 .taken)
+
+returns-6 : tie.Need-returns-6
+returns-6 c =
+    let v = c .before .before in
+    let b = v .before .before in
+    reads-unsettled _ (b .before .before .before .before .before .before .before .before .before .before .before .before .before .before .pre .0) (told b) (v .verdict-of .result) (v .verdict-of .ensures) (c .before .if1 .left) (c .if2 .left)
 
 pub hgvs-variant-spec : {M : Type 1} → statement M
 hgvs-variant-spec =
@@ -100,4 +123,7 @@ hgvs-variant-spec =
     enum-known-body
     enum-told-3
     returns-3
-    returns-4)
+    verdict-of-requires
+    returns-4
+    returns-5
+    returns-6)

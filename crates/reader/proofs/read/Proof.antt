@@ -1,4 +1,4 @@
-use Rattle.reader.proofs.ReadCases.{reads-refused, reads-record}
+use Rattle.reader.proofs.ReadCases.{reads-refused, reads-settled, reads-unsettled}
 use borrow.Author.Needs.{needs}
 use Rattle.reader.proofs.read.Statement.{statement}
 use Rattle.reader.proofs.read.Tie as tie
@@ -12,19 +12,32 @@ enum-known-why c = search needs
 enum-known-header : tie.Need-enum-known-header
 enum-known-header c = search needs
 
-record-body-requires : tie.Need-record-body-requires
-record-body-requires c κs = search needs
+accepted-requires : tie.Need-accepted-requires
+accepted-requires c κs = search needs
+
+enum-known-header-2 : tie.Need-enum-known-header-2
+enum-known-header-2 c = search needs
+
+accepted-requires-2 : tie.Need-accepted-requires-2
+accepted-requires-2 c κs = search needs
 
 returns : tie.Need-returns
 returns c =
     let w = c .before in
-    reads-refused _ (w .before .before .reading-of .ensures) (w .why .given .0 .0) (w .why .given .1)
+    let r = w .before .before .reading-of in
+    reads-refused _ (r .result) (r .ensures) (w .why .given .0 .0) (w .why .given .1)
 
 returns-2 : tie.Need-returns-2
 returns-2 c =
     let h = c .before .before in
-    let found = h .header .given .0 in
-    reads-record _ (h .before .before .reading-of .ensures) (found .0) (found .1 .0) (found .1 .1 .0) (h .header .given .1) (c .record-body .result) (c .record-body .ensures)
+    let r = h .before .before .reading-of in
+    reads-settled _ _ _ _ (c .accepted .ensures) (r .result) (r .ensures) (h .header .given .1)
+
+returns-3 : tie.Need-returns-3
+returns-3 c =
+    let h = c .before .before in
+    let r = h .before .before .reading-of in
+    reads-unsettled _ _ _ _ (c .accepted2 .ensures) (r .result) (r .ensures) (h .header2 .given .1)
 
 pub read-spec : {M : Type 1} → statement M
 read-spec =
@@ -33,6 +46,9 @@ read-spec =
     reading-of-requires
     enum-known-why
     enum-known-header
-    record-body-requires
+    accepted-requires
+    enum-known-header-2
+    accepted-requires-2
     returns
-    returns-2)
+    returns-2
+    returns-3)

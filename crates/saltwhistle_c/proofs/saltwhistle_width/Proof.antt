@@ -1,4 +1,4 @@
-use Rattle.saltwhistle_c.specs.Told.{refused-gauges, read-gauges}
+use Rattle.saltwhistle_c.specs.Told.{refused-gauges, settled-gauges, unsettled-gauges}
 use borrow.Author.Needs.{needs}
 use Rattle.saltwhistle_c.proofs.saltwhistle_width.Statement.{statement}
 use Rattle.saltwhistle_c.proofs.saltwhistle_width.Tie as tie
@@ -21,6 +21,15 @@ width-any-requires c κs = search needs
 of-width-requires : tie.Need-of-width-requires
 of-width-requires c κs = search needs
 
+enum-known-header-2 : tie.Need-enum-known-header-2
+enum-known-header-2 c = search needs
+
+width-any-requires-2 : tie.Need-width-any-requires-2
+width-any-requires-2 c κs = search needs
+
+of-width-requires-2 : tie.Need-of-width-requires-2
+of-width-requires-2 c κs = search needs
+
 returns : tie.Need-returns
 returns c =
     let w = c .before .before in
@@ -32,7 +41,14 @@ returns-2 c =
     let w = c .before in
     let h = w .before .before in
     let r = h .before .before in
-    read-gauges (r .before .before .args .text .now) (r .reading-of .result) (r .reading-of .ensures) _ _ _ _ (h .header .given .1) (w .width-any .result) (w .width-any .ensures) (c .of-width .ensures)
+    settled-gauges (r .before .before .args .text .now) (r .reading-of .result) (r .reading-of .ensures) _ _ _ (w .width-any .result) (w .width-any .ensures) (c .of-width .ensures) (h .header .given .1)
+
+returns-3 : tie.Need-returns-3
+returns-3 c =
+    let w = c .before in
+    let h = w .before .before in
+    let r = h .before .before in
+    unsettled-gauges (r .before .before .args .text .now) (r .reading-of .result) (r .reading-of .ensures) _ _ _ (w .width-any2 .result) (w .width-any2 .ensures) (c .of-width2 .ensures) (h .header2 .given .1)
 
 pub saltwhistle-width-spec : {M : Type 1} → statement M
 saltwhistle-width-spec =
@@ -44,5 +60,9 @@ saltwhistle-width-spec =
     enum-known-header
     width-any-requires
     of-width-requires
+    enum-known-header-2
+    width-any-requires-2
+    of-width-requires-2
     returns
-    returns-2)
+    returns-2
+    returns-3)
