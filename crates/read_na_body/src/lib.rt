@@ -1,9 +1,12 @@
 // Reading a body of c, g, m, n or r: location and edit, up to the end of the text.
 use any_body::AnyBody;
+use any_location::Location;
+use any_location::Position;
 use read_location::LocationRead;
 use read_na_edit::MuNaEditRead;
 use read_scan::Faults;
 use record::Kind;
+use record::Span;
 ghost use mathlib.Core.Path.{_≡_};
 ghost use Prim.Native.Nat.{_+_, _≤_};
 ghost use lib.ListN.{length};
@@ -18,6 +21,37 @@ ghost use Rattle.read_na_body.specs.NaBodyAnswers.{naAnswer};
 pub enum BodyRead {
     Nothing,
     Found(AnyBody, Faults),
+}
+
+// The same position and location, part by part, as `read_na_edit` rebuilds an edit.
+fn rebuilt_position(p: Position) -> Position
+    ensures { λ r. ⌜ r ≡ p ⌝ }
+{
+    let aa = p.aa;
+    let cds_from = p.cds_from;
+    let offset = p.offset;
+    Position {
+        aa: Span {
+            start: aa.start,
+            end: aa.end,
+        },
+        number: p.number,
+        unknown: p.unknown,
+        cds_from,
+        offset,
+    }
+}
+
+fn rebuilt(l: Location) -> Location
+    ensures { λ r. ⌜ r ≡ l ⌝ }
+{
+    let start = l.start;
+    let end = l.end;
+    Location {
+        certain: l.certain,
+        start: rebuilt_position(start),
+        end: rebuilt_position(end),
+    }
 }
 
 pub fn na_body(table: &[u8; 256], kind: Kind, s: &[u8], at: usize) -> BodyRead
@@ -35,7 +69,7 @@ pub fn na_body(table: &[u8; 256], kind: Kind, s: &[u8], at: usize) -> BodyRead
         return BodyRead::Nothing;
     }
     BodyRead::Found(
-        AnyBody::Nucleotide(kind, l, edit),
+        AnyBody::Nucleotide(kind, rebuilt(l), edit),
         read_scan::leftmost(faults, later),
     )
 }

@@ -3,6 +3,7 @@ use read_na_forms::NaEditRead;
 use read_scan::Ending;
 use read_scan::Faults;
 use record::MuNaEdit;
+use record::NaEdit;
 ghost use mathlib.Core.Path.{_≡_};
 ghost use Prim.Native.Nat.{_+_, _≤_};
 ghost use lib.ListN.{length};
@@ -48,6 +49,22 @@ fn na_edit_at(table: &[u8; 256], s: &[u8], at: usize) -> NaEditRead
     read_na_forms::inv(table, s, at)
 }
 
+// The same edit, part by part: moved whole it is copied as bytes, and to read back at once in other widths what was just written stalls the processor.
+fn rebuilt(e: NaEdit) -> NaEdit
+    ensures { λ r. ⌜ r ≡ e ⌝ }
+{
+    match e {
+        NaEdit::RefAlt(reference, alternative) => NaEdit::RefAlt(reference, alternative),
+        NaEdit::NumAlt(count, alternative) => NaEdit::NumAlt(count, alternative),
+        NaEdit::DelRef(reference) => NaEdit::DelRef(reference),
+        NaEdit::DelNum(count) => NaEdit::DelNum(count),
+        NaEdit::Ins(alternative) => NaEdit::Ins(alternative),
+        NaEdit::Dup(reference) => NaEdit::Dup(reference),
+        NaEdit::InvRef(reference) => NaEdit::InvRef(reference),
+        NaEdit::InvNum(count) => NaEdit::InvNum(count),
+    }
+}
+
 // The edit at the front of s, in round brackets or not.
 pub fn mu_na_edit_at(table: &[u8; 256], s: &[u8], at: usize) -> MuNaEditRead
     requires { ⌜ (at + length (now s) ≤ 4096) × IsTable (now table) ⌝ }
@@ -58,8 +75,8 @@ pub fn mu_na_edit_at(table: &[u8; 256], s: &[u8], at: usize) -> MuNaEditRead
         return MuNaEditRead::Nothing;
     };
     match read_scan::closing(s, a, n) {
-        Ending::Bare => MuNaEditRead::Found(MuNaEdit::Certain(e), n, faults),
-        Ending::Closed(k) => MuNaEditRead::Found(MuNaEdit::Uncertain(e), k, faults),
+        Ending::Bare => MuNaEditRead::Found(MuNaEdit::Certain(rebuilt(e)), n, faults),
+        Ending::Closed(k) => MuNaEditRead::Found(MuNaEdit::Uncertain(rebuilt(e)), k, faults),
         Ending::Missing => MuNaEditRead::Nothing,
     }
 }

@@ -1,4 +1,4 @@
-// A text of the grammar: the header, the kind, then the body up to the end.
+// Reading any bytes: the header, the kind, then the body up to the end; the body is one of any kind.
 use any_body::AnyBody;
 use read_header::HeaderRead;
 use read_header::KindRead;
@@ -48,19 +48,22 @@ fn body_at(table: &[u8; 256], kind: Kind, s: &[u8], at: usize) -> BodyRead
     read_na_body::na_body(table, kind, s, at)
 }
 
-// A text that is not too long, digit strings of any length allowed until the whole of it is read.
-pub fn hgvs_variant(table: &[u8; 256], s: &[u8]) -> Reading
-    requires { ⌜ (length (now s) ≤ 4096) × IsTable (now table) ⌝ }
-    ensures { λ r. ⌜ Tells (now (s .entry)) r ⌝ }
+// Any bytes; digit strings of any length are allowed until the whole text is read.
+pub fn reading_of(text: &[u8]) -> Reading
+    ensures { λ r. ⌜ Tells (now (text .entry)) r ⌝ }
 {
-    let HeaderRead::Found(header, n) = read_header::header_at(table, s, 0) else {
+    if 4096 < text.len() {
+        return Reading::Refused(Refusal::TooLong);
+    }
+    let table = alphabet::classes();
+    let HeaderRead::Found(header, n) = read_header::header_at(&table, text, 0) else {
         return Reading::Refused(Refusal::NotInGrammar);
     };
-    let KindRead::Found(kind) = read_header::kind_at(&s[n..]) else {
+    let KindRead::Found(kind) = read_header::kind_at(&text[n..]) else {
         return Reading::Refused(Refusal::NotInGrammar);
     };
     let k = n + 3;
-    let BodyRead::Found(body, faults) = body_at(table, kind, &s[k..], k) else {
+    let BodyRead::Found(body, faults) = body_at(&table, kind, &text[k..], k) else {
         return Reading::Refused(Refusal::NotInGrammar);
     };
     let said = read_scan::verdict_of(faults);

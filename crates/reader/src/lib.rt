@@ -21,7 +21,7 @@ fn accepted(header: Header, b: AnyBody) -> ReadAnswer
 pub fn read(text: &[u8]) -> ReadAnswer
     ensures { λ r. ⌜ Reads allLetters (now (text .entry)) (readOutcome r) ⌝ }
 {
-    match read_bytes::reading_of(text) {
+    match read_text::reading_of(text) {
         Reading::Refused(why) => ReadAnswer::Refused(why),
         Reading::Settled(header, b) => accepted(header, b),
         Reading::Unsettled(header, b) => accepted(header, b),

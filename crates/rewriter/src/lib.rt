@@ -35,7 +35,7 @@ fn copy(text: &[u8], output: &mut [u8]) -> WriteAnswer
 pub fn shortest(text: &[u8], output: &mut [u8]) -> Answer
     ensures { λ r. ⌜ Rewrites (ToWrite allLetters) (now (text .entry)) (now (output .entry)) r (now (output .exit)) ⌝ }
 {
-    match read_bytes::reading_of(text) {
+    match read_text::reading_of(text) {
         Reading::Refused(why) => numbered::of_refusal(why),
         Reading::Settled(_, _) => numbered::of_write(copy(text, output)),
         Reading::Unsettled(header, b) => {
@@ -55,7 +55,7 @@ fn without_reference(text: &[u8], header: Header, b: AnyBody, output: &mut [u8])
 pub fn noref(text: &[u8], output: &mut [u8]) -> Answer
     ensures { λ r. ⌜ Rewrites (NoRefText allLetters) (now (text .entry)) (now (output .entry)) r (now (output .exit)) ⌝ }
 {
-    match read_bytes::reading_of(text) {
+    match read_text::reading_of(text) {
         Reading::Refused(why) => numbered::of_refusal(why),
         Reading::Settled(header, b) => without_reference(text, header, b, output),
         Reading::Unsettled(header, b) => without_reference(text, header, b, output),

@@ -11,7 +11,7 @@ ghost use Rattle.numbered.specs.TextOperations.{Checks, Rewrites, Gauges};
 pub extern "C" fn saltwhistle_check(text: &[u8]) -> Answer
     ensures { λ r. ⌜ Checks (now (text .entry)) r ⌝ }
 {
-    match read_bytes::reading_of(text) {
+    match read_text::reading_of(text) {
         Reading::Refused(why) => numbered::of_refusal(why),
         Reading::Settled(_, _) => numbered::bare(0, 0),
         Reading::Unsettled(_, _) => numbered::bare(0, 0),
@@ -39,7 +39,7 @@ pub extern "C" fn saltwhistle_noref(text: &[u8], output: &mut [u8]) -> Answer
 pub extern "C" fn saltwhistle_width(text: &[u8]) -> Answer
     ensures { λ r. ⌜ Gauges (now (text .entry)) r ⌝ }
 {
-    match read_bytes::reading_of(text) {
+    match read_text::reading_of(text) {
         Reading::Refused(why) => numbered::of_refusal(why),
         Reading::Settled(header, b) => numbered::of_width(measure_any::width_any(text, header, b)),
         Reading::Unsettled(header, b) => numbered::of_width(measure_any::width_any(

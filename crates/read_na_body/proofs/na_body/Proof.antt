@@ -65,11 +65,17 @@ add-if1 c = omega (arith, edit-le (kind (c .before .before .before .before .befo
 returns-3 : tie.Need-returns-3
 returns-3 c = not-ended _ _ _ (loc (c .before .before .before .before .before .before .before)) (edit (c .before .before)) (c .if1 .taken)
 
+rebuilt-requires : tie.Need-rebuilt-requires
+rebuilt-requires c κs = search needs
+
 leftmost-requires : tie.Need-leftmost-requires
 leftmost-requires c κs = search needs
 
 returns-4 : tie.Need-returns-4
-returns-4 c = body-found _ _ _ (loc (c .before .before .before .before .before .before .before .before)) (edit (c .before .before .before)) (c .before .if1 .left) _ (c .leftmost .ensures)
+returns-4 c =
+    let whole = c .before .before in
+    rw (c .before .rebuilt .ensures)
+    (body-found _ _ _ (loc (whole .before .before .before .before .before .before .before)) (edit (whole .before .before)) (whole .if1 .left) _ (c .leftmost .ensures))
 
 pub na-body-spec : {M : Type 1} → statement M
 na-body-spec =
@@ -89,5 +95,6 @@ na-body-spec =
     returns-2
     add-if1
     returns-3
+    rebuilt-requires
     leftmost-requires
     returns-4)

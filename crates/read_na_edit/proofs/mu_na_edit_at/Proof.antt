@@ -59,23 +59,31 @@ closing-requires c κs = mu-le bracketed edit-cases Mus.Nothing Mus.Found _ _ _ 
 enum-told-2 : tie.Need-enum-told-2
 enum-told-2 c = search needs
 
+rebuilt-requires : tie.Need-rebuilt-requires
+rebuilt-requires c κs = search needs
+
 enum-known-k : tie.Need-enum-known-k
 enum-known-k c = search needs
+
+rebuilt-requires-2 : tie.Need-rebuilt-requires-2
+rebuilt-requires-2 c κs = search needs
 
 enum-told-3 : tie.Need-enum-told-3
 enum-told-3 c = search needs
 
 returns-2 : tie.Need-returns-2
 returns-2 c =
-    let a = c .before .before in
+    let a = c .before .before .before in
     let e = a .before .before in
-    mu-bare bracketed edit-cases _ _ _ _ _ (e .before .before .before .before .opening .ensures) _ _ _ (read e) (sym (c .enum-told2 .given .1) ∙ a .closing .ensures)
+    rw (c .rebuilt .ensures)
+    (mu-bare bracketed edit-cases _ _ _ _ _ (e .before .before .before .before .opening .ensures) _ _ _ (read e) (sym (c .before .enum-told2 .given .1) ∙ a .closing .ensures))
 
 returns-3 : tie.Need-returns-3
 returns-3 c =
-    let a = c .before .before .before in
+    let a = c .before .before .before .before in
     let e = a .before .before in
-    mu-closed bracketed edit-cases _ _ _ _ _ (e .before .before .before .before .opening .ensures) _ _ _ (read e) _ (sym (c .before .k .given .1) ∙ a .closing .ensures)
+    rw (c .rebuilt2 .ensures)
+    (mu-closed bracketed edit-cases _ _ _ _ _ (e .before .before .before .before .opening .ensures) _ _ _ (read e) _ (sym (c .before .before .k .given .1) ∙ a .closing .ensures))
 
 returns-4 : tie.Need-returns-4
 returns-4 c =
@@ -98,7 +106,9 @@ mu-na-edit-at-spec =
     returns
     closing-requires
     enum-told-2
+    rebuilt-requires
     enum-known-k
+    rebuilt-requires-2
     enum-told-3
     returns-2
     returns-3
