@@ -1,7 +1,11 @@
 // The alphabets: which class a byte is of, and how many bytes of a class stand at the front of a text.
 ghost use mathlib.Core.Path.{_≡_};
+ghost use Prim.Native.Nat.{_+_, _≤_};
+ghost use lib.ListN.{length, drop};
 ghost use Rattle.texts.specs.Runs.{run};
 ghost use Rattle.alphabet.specs.Classes.{member};
+ghost use Rattle.alphabet.specs.Flags.{flag};
+ghost use Rattle.alphabet.specs.declared.Class.the-variants.{Nucleotide};
 ghost use Rattle.alphabet.specs.Cells.{IsTable, classTable, within, lowest as lowestOf, highest as highestOf};
 
 // 0 no letter, digit or `*`; 1 `*`; 2 a residue letter that is no nucleotide letter;
@@ -333,4 +337,43 @@ pub fn run_of(table: &[u8; 256], class: Class, s: &[u8]) -> usize
         i += 1;
     }
     i
+}
+
+// 1 for a nucleotide letter, else 0: such numbers are joined without a jump.
+fn nucleotide_flag(table: &[u8; 256], b: u8) -> u8
+    requires { ⌜ IsTable (now table) ⌝ }
+    ensures { λ r. ⌜ r ≡ flag (member Nucleotide b) ⌝ }
+{
+    is_in(table, Class::Nucleotide, b) as u8
+}
+
+// Four nucleotide letters a turn, up to the first four bytes that are not all such letters.
+fn fours(table: &[u8; 256], s: &[u8]) -> usize
+    requires { ⌜ IsTable (now table) ⌝ }
+    ensures { λ r. ⌜ (r ≤ length (now (s .entry))) × (run (member Nucleotide) (now (s .entry)) ≡ r + run (member Nucleotide) (drop r (now (s .entry)))) ⌝ }
+{
+    let mut counted: usize = 0;
+    while 4 <= s.len() - counted {
+        let letters = nucleotide_flag(table, s[counted])
+            & nucleotide_flag(table, s[counted + 1])
+            & nucleotide_flag(table, s[counted + 2])
+            & nucleotide_flag(table, s[counted + 3]);
+        if letters == 0 {
+            return counted;
+        }
+        counted += 4;
+    }
+    counted
+}
+
+// The nucleotide letters at the front, as run_of counts them; those of a long text four a turn.
+pub fn sequence_of(table: &[u8; 256], s: &[u8]) -> usize
+    requires { ⌜ IsTable (now table) ⌝ }
+    ensures { λ r. ⌜ r ≡ run (member Nucleotide) (now (s .entry)) ⌝ }
+{
+    if 64 <= s.len() {
+        let counted = fours(table, s);
+        return counted + run_of(table, Class::Nucleotide, &s[counted..]);
+    }
+    run_of(table, Class::Nucleotide, s)
 }

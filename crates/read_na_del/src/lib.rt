@@ -1,5 +1,4 @@
 // Reading a nucleotide edit that begins with `del`. `at` is where the edit starts in the whole text.
-use alphabet::Class;
 use numerals::Number;
 use numerals::Sign;
 use read_na_forms::NaEditRead;
@@ -39,7 +38,7 @@ fn after_del(table: &[u8; 256], s: &[u8], at: usize) -> NaEditRead
     requires { ⌜ (at + 3 + length (now s) ≤ 4096) × IsTable (now table) ⌝ }
     ensures { λ r. ⌜ r ≡ naEditAnswer at (some (afterDel nucleotide (now (s .entry)))) ⌝ }
 {
-    let m = alphabet::run_of(table, Class::Nucleotide, s);
+    let m = alphabet::sequence_of(table, s);
     let b = read_na_forms::inserted(table, &s[m..]);
     if b != 0 {
         return NaEditRead::Found(

@@ -63,7 +63,7 @@ pub fn inserted(table: &[u8; 256], s: &[u8]) -> usize
     ensures { λ r. ⌜ r ≡ length (insertedLetters nucleotide (now (s .entry))) ⌝ }
 {
     if words::begins(s, b"ins") {
-        return alphabet::run_of(table, Class::Nucleotide, &s[3..]);
+        return alphabet::sequence_of(table, &s[3..]);
     }
     0
 }
@@ -90,7 +90,7 @@ pub fn dup(table: &[u8; 256], s: &[u8], at: usize) -> NaEditRead
     ensures { λ r. ⌜ r ≡ naEditAnswer at (parseDup nucleotide (now (s .entry))) ⌝ }
 {
     if words::begins(s, b"dup") {
-        let m = alphabet::run_of(table, Class::Nucleotide, &s[3..]);
+        let m = alphabet::sequence_of(table, &s[3..]);
         return NaEditRead::Found(
             NaEdit::Dup(read_scan::span(at + 3, m)),
             3 + m,

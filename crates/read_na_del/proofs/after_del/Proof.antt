@@ -17,23 +17,23 @@ use borrow.Author.Needs.{needs}
 use Rattle.read_na_del.proofs.after_del.Statement.{statement}
 use Rattle.read_na_del.proofs.after_del.Tie as tie
 
-m-le : (c : tie.After-run-of) → c .run-of .result ≤ length (c .before .before .args .s .now)
+m-le : (c : tie.After-sequence-of) → c .sequence-of .result ≤ length (c .before .before .args .s .now)
 unfolding member
-m-le c = counted-le nucleotide _ _ (c .run-of .ensures)
+m-le c = counted-le nucleotide _ _ (c .sequence-of .ensures)
 
-m-is : (c : tie.After-run-of) → c .run-of .result ≡ length (front nucleotide (c .before .before .args .s .now))
+m-is : (c : tie.After-sequence-of) → c .sequence-of .result ≡ length (front nucleotide (c .before .before .args .s .now))
 unfolding member
-m-is c = c .run-of .ensures ∙ sym (front-length nucleotide (c .before .before .args .s .now))
+m-is c = c .sequence-of .ensures ∙ sym (front-length nucleotide (c .before .before .args .s .now))
 
 b-is : (c : tie.After-inserted) → c .inserted .result ≡ length (inserted nucleotide (behind nucleotide (c .before .before .before .before .args .s .now)))
 unfolding member
-b-is c = inserted-behind nucleotide nucleotide _ _ _ (c .before .before .run-of .ensures) (c .inserted .ensures)
+b-is c = inserted-behind nucleotide nucleotide _ _ _ (c .before .before .sequence-of .ensures) (c .inserted .ensures)
 
 b-le : (c : tie.After-inserted) → c .inserted .result ≤ length (c .before .before .before .before .args .s .now)
 b-le c = inserted-within nucleotide nucleotide _ _ (b-is c)
 
-run-of-requires : tie.Need-run-of-requires
-run-of-requires c κs = search needs
+sequence-of-requires : tie.Need-sequence-of-requires
+sequence-of-requires c κs = search needs
 
 sub-inserted : tie.Need-sub-inserted
 sub-inserted c = m-le c
@@ -65,14 +65,14 @@ add-span-4 c = omega (arith, m-le (c .before .before .before .before))
 span-requires-2 : tie.Need-span-requires-2
 span-requires-2 c κs = omega (arith, m-le (c .before .before .before .before), b-le (c .before .before))
 
+add-t19 : tie.Need-add-t19
+add-t19 c = omega (arith, m-le (c .before .before .before .before .before))
+
 add-t20 : tie.Need-add-t20
 add-t20 c = omega (arith, m-le (c .before .before .before .before .before))
 
 add-t21 : tie.Need-add-t21
-add-t21 c = omega (arith, m-le (c .before .before .before .before .before))
-
-add-t22 : tie.Need-add-t22
-add-t22 c = omega (arith, m-le (c .before .before .before .before .before), b-le (c .before .before .before))
+add-t21 c = omega (arith, m-le (c .before .before .before .before .before), b-le (c .before .before .before))
 
 no-faults-requires : tie.Need-no-faults-requires
 no-faults-requires c κs = search needs
@@ -109,8 +109,8 @@ add-span-5 c = search needs
 span-requires-3 : tie.Need-span-requires-3
 span-requires-3 c κs = omega (arith, m-le (c .before .before .before .before .before .before))
 
-add-t29 : tie.Need-add-t29
-add-t29 c = omega (arith, m-le (c .before .before .before .before .before .before .before))
+add-t28 : tie.Need-add-t28
+add-t28 c = omega (arith, m-le (c .before .before .before .before .before .before .before))
 
 no-faults-requires-2 : tie.Need-no-faults-requires-2
 no-faults-requires-2 c κs = search needs
@@ -129,7 +129,7 @@ pub after-del-spec : {M : Type 1} → statement M
 after-del-spec =
     tie.close
     (tie.spec
-    run-of-requires
+    sequence-of-requires
     sub-inserted
     part-inserted-start
     part-inserted-end
@@ -140,9 +140,9 @@ after-del-spec =
     add-span-3
     add-span-4
     span-requires-2
+    add-t19
     add-t20
     add-t21
-    add-t22
     no-faults-requires
     settled-if-requires
     returns
@@ -151,6 +151,6 @@ after-del-spec =
     returns-2
     add-span-5
     span-requires-3
-    add-t29
+    add-t28
     no-faults-requires-2
     returns-3)

@@ -22,12 +22,12 @@ is-dup : (c : tie.Then1) → starts (ascii "dup") (c .before .before .before .be
 is-dup c = sym (c .before .begins .ensures) ∙ c .if1 .taken
 
 -- the letters lie within what is behind the word
-room : (c : tie.After-run-of) → c .before .before .before .before .before .before .args .at + 3 + c .run-of .result ≤ 4096
+room : (c : tie.After-sequence-of) → c .before .before .before .before .before .before .args .at + 3 + c .sequence-of .result ≤ 4096
 unfolding member
 room c =
     let t = c .before .before in
     let a = t .before .before .before .before in
-    omega (arith, counted-le nucleotide _ _ (c .run-of .ensures), word-room (ascii "dup") (a .args .s .now) (a .args .at) refl (is-dup t) (a .pre .0))
+    omega (arith, counted-le nucleotide _ _ (c .sequence-of .ensures), word-room (ascii "dup") (a .args .s .now) (a .args .at) refl (is-dup t) (a .pre .0))
 
 slice-aggregate-begins : tie.Need-slice-aggregate-begins
 slice-aggregate-begins c = search needs
@@ -35,17 +35,17 @@ slice-aggregate-begins c = search needs
 begins-requires : tie.Need-begins-requires
 begins-requires c κs = search needs
 
-sub-run-of : tie.Need-sub-run-of
-sub-run-of c = word-long (ascii "dup") _ refl (is-dup c)
+sub-sequence-of : tie.Need-sub-sequence-of
+sub-sequence-of c = word-long (ascii "dup") _ refl (is-dup c)
 
-part-run-of-start : tie.Need-part-run-of-start
-part-run-of-start c = word-long (ascii "dup") _ refl (is-dup c)
+part-sequence-of-start : tie.Need-part-sequence-of-start
+part-sequence-of-start c = word-long (ascii "dup") _ refl (is-dup c)
 
-part-run-of-end : tie.Need-part-run-of-end
-part-run-of-end c = search needs
+part-sequence-of-end : tie.Need-part-sequence-of-end
+part-sequence-of-end c = search needs
 
-run-of-requires : tie.Need-run-of-requires
-run-of-requires c κs = search needs
+sequence-of-requires : tie.Need-sequence-of-requires
+sequence-of-requires c κs = search needs
 
 add-span : tie.Need-add-span
 add-span c = search needs
@@ -53,8 +53,8 @@ add-span c = search needs
 span-requires : tie.Need-span-requires
 span-requires c κs = omega (arith, room c)
 
-add-t16 : tie.Need-add-t16
-add-t16 c = omega (arith, room (c .before))
+add-t15 : tie.Need-add-t15
+add-t15 c = omega (arith, room (c .before))
 
 no-faults-requires : tie.Need-no-faults-requires
 no-faults-requires c κs = search needs
@@ -66,7 +66,7 @@ returns c =
     let s = m .before .before .before .before .before .before .args .s .now in
     let x = take (length s - 3) (drop 3 s) in
     word-found _ (ascii "dup") (λ x. Tree.NaEditTree.dup (front nucleotide x)) s refl (is-dup (m .before .before)) _
-    (found-word _ _ (c .no-faults .ensures) _ (front nucleotide x) _ (m .run-of .ensures ∙ sym (front-length nucleotide x)) (c .before .span .ensures) Dup (Tree.NaEditTree.dup (front nucleotide x)) (ascii "dup") refl refl refl refl refl)
+    (found-word _ _ (c .no-faults .ensures) _ (front nucleotide x) _ (m .sequence-of .ensures ∙ sym (front-length nucleotide x)) (c .before .span .ensures) Dup (Tree.NaEditTree.dup (front nucleotide x)) (ascii "dup") refl refl refl refl refl)
 
 returns-2 : tie.Need-returns-2
 unfolding parseDup
@@ -78,13 +78,13 @@ dup-spec =
     (tie.spec
     slice-aggregate-begins
     begins-requires
-    sub-run-of
-    part-run-of-start
-    part-run-of-end
-    run-of-requires
+    sub-sequence-of
+    part-sequence-of-start
+    part-sequence-of-end
+    sequence-of-requires
     add-span
     span-requires
-    add-t16
+    add-t15
     no-faults-requires
     returns
     returns-2)

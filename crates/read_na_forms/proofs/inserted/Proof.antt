@@ -19,21 +19,21 @@ slice-aggregate-begins c = search needs
 begins-requires : tie.Need-begins-requires
 begins-requires c κs = search needs
 
-sub-run-of : tie.Need-sub-run-of
-sub-run-of c = word-long (ascii "ins") _ refl (is-ins c)
+sub-sequence-of : tie.Need-sub-sequence-of
+sub-sequence-of c = word-long (ascii "ins") _ refl (is-ins c)
 
-part-run-of-start : tie.Need-part-run-of-start
-part-run-of-start c = word-long (ascii "ins") _ refl (is-ins c)
+part-sequence-of-start : tie.Need-part-sequence-of-start
+part-sequence-of-start c = word-long (ascii "ins") _ refl (is-ins c)
 
-part-run-of-end : tie.Need-part-run-of-end
-part-run-of-end c = search needs
+part-sequence-of-end : tie.Need-part-sequence-of-end
+part-sequence-of-end c = search needs
 
-run-of-requires : tie.Need-run-of-requires
-run-of-requires c κs = search needs
+sequence-of-requires : tie.Need-sequence-of-requires
+sequence-of-requires c κs = search needs
 
 returns : tie.Need-returns
 unfolding member
-returns c = inserted-some nucleotide _ _ (is-ins (c .before .before)) (c .run-of .ensures)
+returns c = inserted-some nucleotide _ _ (is-ins (c .before .before)) (c .sequence-of .ensures)
 
 returns-2 : tie.Need-returns-2
 returns-2 c = inserted-none nucleotide _ (sym (c .before .begins .ensures) ∙ c .if1 .left)
@@ -44,9 +44,9 @@ inserted-spec =
     (tie.spec
     slice-aggregate-begins
     begins-requires
-    sub-run-of
-    part-run-of-start
-    part-run-of-end
-    run-of-requires
+    sub-sequence-of
+    part-sequence-of-start
+    part-sequence-of-end
+    sequence-of-requires
     returns
     returns-2)
