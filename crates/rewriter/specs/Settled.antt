@@ -12,7 +12,6 @@ use Rattle.record.specs.declared.WriteAnswer.{WriteAnswer}
 use Rattle.grammar.specs.Texts.{allLetters}
 use Rattle.grammar.specs.Contents.{content}
 use Rattle.grammar.specs.ContentLaw.{content-is}
-use Rattle.grammar.specs.SpanLaw.{spans-in-text}
 use Rattle.grammar.specs.Numbers.{numbersAt}
 use Rattle.grammar.specs.NumberLaws.{isFaultless, allPlain}
 use Rattle.lang_na_edits.specs.Alphabet.{alphabets}
@@ -20,7 +19,8 @@ use Rattle.lang_bodies.specs.WholeText.{parseText, complete-text}
 use Rattle.lang_bodies.specs.Settled.{settledText, isSettled, parsed-settled}
 use Rattle.promise.specs.Outcome.{Outcome.given, writeOutcome, limit}
 use Rattle.promise.specs.Reading.{Reads, Reads.accepted}
-use Rattle.promise.specs.Writing.{Sound, Writes, ToWrite}
+use Rattle.promise.specs.Writing.{Writes, ToWrite}
+use Rattle.promise.specs.Accepted.{accepted-sound}
 use Rattle.lang_canon.specs.Settled.{settled-shortest}
 use Rattle.emit_text.specs.Answered.{answered, left}
 use Rattle.write_any.specs.AnyWrites.{text-writes}
@@ -33,11 +33,8 @@ module _ (s : List ℕ) (settled : isSettled allLetters alphabets s ≡ true) wh
       let b = and-true (allPlain (numbersAt 0 x)) (settledText x) (a .1) in
       rw (← tree .text, content-is x) (settled-shortest allLetters alphabets x (tree .wf) fits (b .0) (b .1))
 
-  sound : (v : HgvsVariant) → Reads allLetters s (given v) → Sound allLetters s v
-  sound v (accepted short x tree fits) = record { short = short; inside = rw (tree .text) at (spans-in-text x); text = s; reads = settled-text v (accepted short x tree fits) .reads }
-
   pub settled-short : (v : HgvsVariant) → Reads allLetters s (given v) → length s ≤ limit
   settled-short v (accepted short x tree fits) = short
 
   pub settled-writes : (v : HgvsVariant) → Reads allLetters s (given v) → (output : List ℕ) (a : WriteAnswer) (o : List ℕ) → a ≡ answered s output → o ≡ left s output → Writes allLetters (ToWrite allLetters) s v output (writeOutcome a) o
-  settled-writes v reads output a o e f = rw (e, f) (text-writes s v output Shortest (sound v reads) s (settled-text v reads))
+  settled-writes v reads output a o e f = rw (e, f) (text-writes s v output Shortest (accepted-sound allLetters s v reads) s (settled-text v reads))
