@@ -43,7 +43,8 @@ struct saltwhistle_answer saltwhistle_shortest(const uint8_t *text, size_t text_
 struct saltwhistle_answer saltwhistle_noref(const uint8_t *text, size_t text_length,
                                             uint8_t *output, size_t output_length);
 
-/* How many bases or residues the location spans: 5 for c.76_80del. */
+/* How many bases or residues the location spans, at most 4,294,967,295: 5 for c.76_80del. For c, n and r there is
+ * no base 0: 2 for c.-1_1del, and 7 for c.0del. */
 struct saltwhistle_answer saltwhistle_width(const uint8_t *text, size_t text_length);
 
 #ifdef __cplusplus

@@ -104,6 +104,6 @@ int LLVMFuzzerTestOneInput(const uint8_t *data, size_t size)
     if (check.number != 0)
         hold(width.number == check.number && width.place == check.place && width.value == 0, "width refuses what check refuses");
     else
-        hold(width.number == 0 ? width.value >= 1 && width.value <= UINT64_C(4294967296) : width.number == 7, "a width, or 7");
+        hold(width.number == 0 ? width.value >= 1 && width.value <= UINT32_MAX : width.number == 7, "a width, or 7");
     return 0;
 }

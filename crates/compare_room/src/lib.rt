@@ -51,14 +51,14 @@ pub fn integer(out: &mut [u8], at: usize, v: i32) -> usize
     magnitude(out, at, emit_number::magnitude(v))
 }
 
-// The largest is a width, one more than a u32 holds.
+// No number of an answer is over 4,294,967,295; a larger one has no room.
 pub fn decimal(out: &mut [u8], at: usize, n: u64) -> usize
     ensures { λ r. ⌜ r ≤ length (now (out .entry)) ⌝ }
 {
-    if n < 4294967296 {
+    if n <= 4294967295 {
         return magnitude(out, at, n as u32);
     }
-    text(out, at, b"4294967296")
+    out.len()
 }
 
 // `! ` and the number.

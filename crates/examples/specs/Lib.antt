@@ -4,3 +4,4 @@ pub mod Proteins
 pub mod Trees
 pub mod Reading
 pub mod Refused
+pub mod Widths

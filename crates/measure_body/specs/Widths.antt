@@ -33,19 +33,19 @@ kindWidth Tx l = muTxWidth l
 kindWidth Prot l = muProtWidth l
 kindWidth Rna l = muRnaWidth l
 
-genome-width : (a b : GenomePos) → widthFromTo (anyPosition Genome a) (anyPosition Genome b) ≡ between (genomeNumber a) (genomeNumber b)
+genome-width : (a b : GenomePos) → widthFromTo Genome (anyPosition Genome a) (anyPosition Genome b) ≡ between (genomeNumber a) (genomeNumber b)
 genome-width G.Unknown G.Unknown = refl
 genome-width G.Unknown (G.At n) = refl
 genome-width (G.At m) G.Unknown = refl
 genome-width (G.At m) (G.At n) = refl
 
-mt-width : (a b : MtPos) → widthFromTo (anyPosition Mt a) (anyPosition Mt b) ≡ between (mtNumber a) (mtNumber b)
+mt-width : (a b : MtPos) → widthFromTo Mt (anyPosition Mt a) (anyPosition Mt b) ≡ between (mtNumber a) (mtNumber b)
 mt-width M.Unknown M.Unknown = refl
 mt-width M.Unknown (M.At n) = refl
 mt-width (M.At m) M.Unknown = refl
 mt-width (M.At m) (M.At n) = refl
 
-any-width : (k : Kind) (l : MuIntervalR k) → locationWidth (anyLocation k l) ≡ kindWidth k l
+any-width : (k : Kind) (l : MuIntervalR k) → locationWidth k (anyLocation k l) ≡ kindWidth k l
 any-width Cds (MuCds.Certain i) = refl
 any-width Cds (MuCds.Uncertain i) = refl
 any-width Genome (MuGenome.Certain i) = genome-width (i .start) (i .end)
@@ -59,12 +59,12 @@ any-width Prot (MuProt.Uncertain i) = refl
 any-width Rna (MuRna.Certain i) = refl
 any-width Rna (MuRna.Uncertain i) = refl
 
-pub measured : (k : Kind) (l : MuIntervalR k) {o : Option ℕ} {any : Location} → o ≡ locationWidth any → any ≡ anyLocation k l → o ≡ kindWidth k l
-measured k l p q = p ∙ ap locationWidth q ∙ any-width k l
+pub measured : (k : Kind) (l : MuIntervalR k) {o : Option ℕ} {any : Location} → o ≡ locationWidth k any → any ≡ anyLocation k l → o ≡ kindWidth k l
+measured k l p q = p ∙ ap (locationWidth k) q ∙ any-width k l
 
 -- ---- a body's
 abbrev pub anyWidth : AnyBody → Option ℕ
-anyWidth (Nucleotide k l e) = locationWidth l
+anyWidth (Nucleotide k l e) = locationWidth k l
 anyWidth (Protein p) = protWidth p
 
 pub any-body-width : (b : Body) → anyWidth (anyBody b) ≡ bodyWidth b

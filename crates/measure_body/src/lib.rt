@@ -1,6 +1,7 @@
 // The width of a body's location: document 01, "Width".
 use any_body::AnyBody;
 use measure_location::LocationWidth;
+use record::Kind;
 use record::ProtLocEdit;
 ghost use mathlib.Core.Path.{_≡_};
 ghost use Rattle.promise.specs.Width.{protWidth};
@@ -11,9 +12,10 @@ fn prot_width(p: ProtLocEdit) -> LocationWidth
     ensures { λ r. ⌜ widthGiven r ≡ protWidth p ⌝ }
 {
     match p {
-        ProtLocEdit::Ordinary(loc, _) => measure_location::location_width(any_of_record::of_prot(
-            loc,
-        )),
+        ProtLocEdit::Ordinary(loc, _) => measure_location::location_width(
+            Kind::Prot,
+            any_of_record::of_prot(loc),
+        ),
         ProtLocEdit::NoChange => LocationWidth::NoWidth,
         ProtLocEdit::NoChangeUncertain => LocationWidth::NoWidth,
         ProtLocEdit::NoProtein => LocationWidth::NoWidth,
@@ -27,7 +29,7 @@ pub fn body_width(b: AnyBody) -> LocationWidth
     ensures { λ r. ⌜ widthGiven r ≡ anyWidth b ⌝ }
 {
     match b {
-        AnyBody::Nucleotide(_, l, _) => measure_location::location_width(l),
+        AnyBody::Nucleotide(kind, l, _) => measure_location::location_width(kind, l),
         AnyBody::Protein(p) => prot_width(p),
     }
 }

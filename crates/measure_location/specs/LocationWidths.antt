@@ -1,17 +1,19 @@
 -- The width of a location of any kind.
 use Prim.Native.Nat.{ℕ}
 use mathlib.Core.Path.{_≡_, refl, sym, ap}
-use mathlib.Core.Bool.{cond}
+use mathlib.Core.Bool.{Bool, true, false, cond}
 use mathlib.Core.Option.{Option, none, some}
 use lib.IntN.{ℤ}
 use Rattle.texts.specs.Tests.{none-some}
-use Rattle.promise.specs.Width.{between, unshifted, anchored}
+use Rattle.record.specs.declared.Kind.{Kind}
+use Rattle.record.specs.declared.Kind.the-variants.{Cds, Genome, Mt, Tx, Prot, Rna}
+use Rattle.promise.specs.Width.{between, baseIndex, unshifted, anchored}
 use Rattle.any_location.specs.declared.Position.{Position}
 use Rattle.any_location.specs.declared.Location.{Location}
 use Rattle.measure_location.specs.declared.LocationWidth.{LocationWidth}
 use Rattle.measure_location.specs.declared.LocationWidth.the-variants.{NoWidth, Width}
-use Rattle.measure_location.specs.declared.EndNumber.{EndNumber}
-use Rattle.measure_location.specs.declared.EndNumber.the-variants.{NoNumber, Number}
+use Rattle.measure_location.specs.declared.EndIndex.{EndIndex}
+use Rattle.measure_location.specs.declared.EndIndex.the-variants.{NoIndex, Index}
 
 abbrev pub widthGiven : LocationWidth → Option ℕ
 widthGiven NoWidth = none
@@ -24,16 +26,28 @@ one-width NoWidth (Width n) e = absurd (none-some e)
 one-width (Width m) NoWidth e = absurd (none-some (sym e))
 one-width (Width m) (Width n) e = let i : m ≡ n = cc in ap Width i
 
-abbrev pub numberGiven : EndNumber → Option ℤ
-numberGiven NoNumber = none
-numberGiven (Number z) = some z
+abbrev pub indexGiven : EndIndex → Option ℤ
+indexGiven NoIndex = none
+indexGiven (Index z) = some z
 
--- the number of an end that is known and has no offset
-abbrev pub endNumber : Position → Option ℤ
-endNumber p = cond (p .unknown) none (unshifted (p .number) (p .offset))
+-- the kinds whose ends are bases, of which none is zero
+abbrev pub hasBases : Kind → Bool
+hasBases Cds = true
+hasBases Genome = false
+hasBases Mt = false
+hasBases Tx = true
+hasBases Prot = false
+hasBases Rna = true
 
-abbrev pub widthFromTo : Position → Position → Option ℕ
-widthFromTo p q = anchored (p .«cds_from») (q .«cds_from») (between (endNumber p) (endNumber q))
+abbrev pub indexOf : Bool → ℤ → Option ℤ
+indexOf bases n = cond bases (baseIndex n) (some n)
 
-abbrev pub locationWidth : Location → Option ℕ
-locationWidth l = widthFromTo (l .start) (l .end)
+-- of an end that is known and has no offset
+abbrev pub endIndex : Bool → Position → Option ℤ
+endIndex bases p = cond (p .unknown) none (unshifted (indexOf bases (p .number)) (p .offset))
+
+abbrev pub widthFromTo : Kind → Position → Position → Option ℕ
+widthFromTo k p q = anchored (p .«cds_from») (q .«cds_from») (between (endIndex (hasBases k) p) (endIndex (hasBases k) q))
+
+abbrev pub locationWidth : Kind → Location → Option ℕ
+locationWidth k l = widthFromTo k (l .start) (l .end)

@@ -118,17 +118,20 @@ cdsAt from base offset = record { base = base; offset = offset; «cds_from» = f
 abbrev pub onCds : CdsPos → CdsPos → Body
 onCds a b = Bo.Cds (record { loc = MuCds.Certain (record { start = a; end = b }); edit = deleted })
 
+abbrev pub aboutCds : CdsPos → CdsPos → Body
+aboutCds a b = Bo.Cds (record { loc = MuCds.Uncertain (record { start = a; end = b }); edit = deleted })
+
 abbrev pub onGenome : GenomePos → GenomePos → Body
 onGenome a b = Bo.Genome (record { loc = MuGenome.Certain (record { start = a; end = b }); edit = deleted })
 
 abbrev pub onMt : MtPos → MtPos → Body
 onMt a b = Bo.Mt (record { loc = MuMt.Uncertain (record { start = a; end = b }); edit = deleted })
 
-abbrev pub onTx : Offset → Offset → Body
-onTx o p = Bo.Tx (record { loc = MuTx.Certain (record { start = record { base = negsuc 1; offset = o }; end = record { base = pos 3; offset = p } }); edit = deleted })
+abbrev pub onTx : ℤ → Offset → ℤ → Offset → Body
+onTx a o b p = Bo.Tx (record { loc = MuTx.Certain (record { start = record { base = a; offset = o }; end = record { base = b; offset = p } }); edit = deleted })
 
-abbrev pub onRna : Offset → Offset → Body
-onRna o p = Bo.Rna (record { loc = MuRna.Uncertain (record { start = record { base = negsuc 1; offset = o }; end = record { base = pos 3; offset = p } }); edit = deleted })
+abbrev pub onRna : ℤ → Offset → ℤ → Offset → Body
+onRna a o b p = Bo.Rna (record { loc = MuRna.Uncertain (record { start = record { base = a; offset = o }; end = record { base = b; offset = p } }); edit = deleted })
 
 abbrev pub onProt : ℤ → ℤ → Body
 onProt a b =
@@ -139,7 +142,6 @@ abbrev pub widths : List (Option ℕ × Option ℕ)
 widths =
     (bodyWidth (onCds (cdsAt Start (pos 76) Absent) (cdsAt Start (pos 76) Absent)), some 1) ∷
     (bodyWidth (onCds (cdsAt End (pos 3) Absent) (cdsAt End (pos 5) Absent)), some 3) ∷
-    (bodyWidth (onCds (cdsAt Start (negsuc 2147483647) Absent) (cdsAt Start (pos 2147483647) Absent)), some 4294967296) ∷
     (bodyWidth (onCds (cdsAt Start (pos 77) Absent) (cdsAt Start (pos 76) Absent)), none) ∷
     (bodyWidth (onCds (cdsAt Start (pos 3) Absent) (cdsAt End (pos 5) Absent)), none) ∷
     (bodyWidth (onCds (cdsAt End (pos 3) Absent) (cdsAt Start (pos 5) Absent)), none) ∷
@@ -149,14 +151,14 @@ widths =
     (bodyWidth (onGenome G.Unknown (G.At (pos 5))), none) ∷
     (bodyWidth (onGenome (G.At (pos 5)) G.Unknown), none) ∷
     (bodyWidth (onGenome G.Unknown G.Unknown), none) ∷
-    (bodyWidth (onMt (Mt.At (pos 3)) (Mt.At (pos 5))), some 3) ∷
+    (bodyWidth (onMt (Mt.At (pos 0)) (Mt.At (pos 2))), some 3) ∷
     (bodyWidth (onMt (Mt.At (pos 5)) (Mt.At (pos 3))), none) ∷
     (bodyWidth (onMt Mt.Unknown (Mt.At (pos 5))), none) ∷
-    (bodyWidth (onTx Absent Absent), some 6) ∷
-    (bodyWidth (onTx (By (pos 1)) Absent), none) ∷
-    (bodyWidth (onRna Absent Absent), some 6) ∷
-    (bodyWidth (onRna Absent (By (negsuc 0))), none) ∷
-    (bodyWidth (onProt (pos 2) (pos 5)), some 4) ∷
+    (bodyWidth (onTx (negsuc 1) Absent (pos 3) Absent), some 5) ∷
+    (bodyWidth (onTx (negsuc 1) (By (pos 1)) (pos 3) Absent), none) ∷
+    (bodyWidth (onRna (negsuc 1) Absent (pos 3) Absent), some 5) ∷
+    (bodyWidth (onRna (negsuc 1) Absent (pos 3) (By (negsuc 0))), none) ∷
+    (bodyWidth (onProt (pos 0) (pos 3)), some 4) ∷
     (bodyWidth (onProt (pos 5) (pos 2)), none) ∷
     (bodyWidth (Bo.Prot NoChange), none) ∷
     (bodyWidth (Bo.Prot NoChangeUncertain), none) ∷
@@ -164,6 +166,17 @@ widths =
     (bodyWidth (Bo.Prot NoProteinUncertain), none) ∷
     (bodyWidth (Bo.Prot Unknown), none) ∷
     (bodyWidth (Bo.Prot InitiationUncertain), none) ∷
+    -- request 2: from -1 to 1, from the least base to the last, from 0, to 0
+    (bodyWidth (onCds (cdsAt Start (negsuc 0) Absent) (cdsAt Start (pos 1) Absent)), some 2) ∷
+    (bodyWidth (aboutCds (cdsAt Start (negsuc 0) Absent) (cdsAt Start (pos 1) Absent)), some 2) ∷
+    (bodyWidth (onCds (cdsAt Start (negsuc 2147483647) Absent) (cdsAt Start (pos 2147483647) Absent)), some 4294967295) ∷
+    (bodyWidth (onCds (cdsAt Start (negsuc 4) Absent) (cdsAt Start (negsuc 2) Absent)), some 3) ∷
+    (bodyWidth (onCds (cdsAt Start (pos 0) Absent) (cdsAt Start (pos 0) Absent)), none) ∷
+    (bodyWidth (onCds (cdsAt Start (pos 0) Absent) (cdsAt Start (pos 1) Absent)), none) ∷
+    (bodyWidth (onCds (cdsAt Start (negsuc 0) Absent) (cdsAt Start (pos 0) Absent)), none) ∷
+    (bodyWidth (onCds (cdsAt End (pos 0) Absent) (cdsAt End (pos 5) Absent)), none) ∷
+    (bodyWidth (onTx (pos 0) Absent (pos 0) Absent), none) ∷
+    (bodyWidth (onRna (pos 0) Absent (pos 0) Absent), none) ∷
     []
 
 pub widths-agree : Each Agree widths

@@ -4,5 +4,6 @@ pub mod Writing
 pub mod Accepted
 pub mod NoRef
 pub mod Width
+pub mod NoBaseZero
 pub mod Unique
 pub mod Examples

@@ -1,10 +1,10 @@
--- Document 01, "Width": what measuring a record answers. Checks 1 (source), 4, 5, 7.
-use Prim.Native.Nat.{ℕ, suc, _-_}
+-- Document 01, "Width", and document 02, request 2: what measuring a record answers. Checks 1 (source), 4, 5, 7.
+use Prim.Native.Nat.{ℕ, zero, suc, _-_}
 use mathlib.Core.Path.{_≡_}
 use mathlib.Core.List.{List}
 use mathlib.Core.Option.{Option, none, some}
 use mathlib.Core.Bool.{Bool, cond}
-use lib.IntN.{ℤ, natAbs, _-ℤ_}
+use lib.IntN.{ℤ, pos, negsuc, natAbs, _-ℤ_}
 use lib.Signed.{leZ}
 use Rattle.record.specs.declared.Kind.{Kind}
 use Rattle.record.specs.declared.Offset.{Offset}
@@ -45,10 +45,16 @@ between none b = none
 between (some a) none = none
 between (some a) (some b) = widthBetween a b
 
--- a base that no offset goes with
-abbrev pub unshifted : ℤ → Offset → Option ℤ
-unshifted base Absent = some base
-unshifted base (By n) = none
+-- for c, n and r, which have no base zero: ..., -2, -1, 1, 2, ... as consecutive numbers
+abbrev pub baseIndex : ℤ → Option ℤ
+baseIndex (negsuc n) = some (negsuc n)
+baseIndex (pos zero) = none
+baseIndex (pos (suc n)) = some (pos n)
+
+-- of an end that no offset goes with
+abbrev pub unshifted : Option ℤ → Offset → Option ℤ
+unshifted index Absent = index
+unshifted index (By n) = none
 
 abbrev pub genomeNumber : GenomePos → Option ℤ
 genomeNumber G.Unknown = none
@@ -67,7 +73,7 @@ anchored End End w = w
 
 abbrev pub cdsWidth : CdsInterval → Option ℕ
 cdsWidth i =
-    anchored (i .start .«cds_from») (i .end .«cds_from») (between (unshifted (i .start .base) (i .start .offset)) (unshifted (i .end .base) (i .end .offset)))
+    anchored (i .start .«cds_from») (i .end .«cds_from») (between (unshifted (baseIndex (i .start .base)) (i .start .offset)) (unshifted (baseIndex (i .end .base)) (i .end .offset)))
 
 abbrev pub muCdsWidth : MuCdsInterval → Option ℕ
 muCdsWidth (MuCds.Certain i) = cdsWidth i
@@ -82,12 +88,12 @@ muMtWidth (MuMt.Certain i) = between (mtNumber (i .start)) (mtNumber (i .end))
 muMtWidth (MuMt.Uncertain i) = between (mtNumber (i .start)) (mtNumber (i .end))
 
 abbrev pub muTxWidth : MuTxInterval → Option ℕ
-muTxWidth (MuTx.Certain i) = between (unshifted (i .start .base) (i .start .offset)) (unshifted (i .end .base) (i .end .offset))
-muTxWidth (MuTx.Uncertain i) = between (unshifted (i .start .base) (i .start .offset)) (unshifted (i .end .base) (i .end .offset))
+muTxWidth (MuTx.Certain i) = between (unshifted (baseIndex (i .start .base)) (i .start .offset)) (unshifted (baseIndex (i .end .base)) (i .end .offset))
+muTxWidth (MuTx.Uncertain i) = between (unshifted (baseIndex (i .start .base)) (i .start .offset)) (unshifted (baseIndex (i .end .base)) (i .end .offset))
 
 abbrev pub muRnaWidth : MuRnaInterval → Option ℕ
-muRnaWidth (MuRna.Certain i) = between (unshifted (i .start .base) (i .start .offset)) (unshifted (i .end .base) (i .end .offset))
-muRnaWidth (MuRna.Uncertain i) = between (unshifted (i .start .base) (i .start .offset)) (unshifted (i .end .base) (i .end .offset))
+muRnaWidth (MuRna.Certain i) = between (unshifted (baseIndex (i .start .base)) (i .start .offset)) (unshifted (baseIndex (i .end .base)) (i .end .offset))
+muRnaWidth (MuRna.Uncertain i) = between (unshifted (baseIndex (i .start .base)) (i .start .offset)) (unshifted (baseIndex (i .end .base)) (i .end .offset))
 
 abbrev pub muProtWidth : MuProtInterval → Option ℕ
 muProtWidth (MuProt.Certain i) = widthBetween (i .start .number) (i .end .number)
