@@ -10,15 +10,36 @@ pub fn silence_panics() {
     set_hook(Box::new(|_| {}));
 }
 
-pub fn answer(text: &[u8]) -> String {
+pub enum Reading {
+    NotUtf8,
+    Panic,
+    Refused,
+    Variant(HgvsVariant),
+}
+
+pub fn read(text: &[u8]) -> Reading {
     let Ok(text) = std::str::from_utf8(text) else {
-        return "NOTUTF8".to_owned();
+        return Reading::NotUtf8;
     };
     match catch_unwind(|| text.parse::<HgvsVariant>()) {
-        Err(_) => "PANIC".to_owned(),
-        Ok(Err(_)) => "ERR".to_owned(),
-        Ok(Ok(variant)) => format!("{}\t{}", record::line(&variant), without_reference(&variant)),
+        Err(_) => Reading::Panic,
+        Ok(Err(_)) => Reading::Refused,
+        Ok(Ok(variant)) => Reading::Variant(variant),
     }
+}
+
+/// As one line of text.
+pub fn line(reading: &Reading) -> String {
+    match reading {
+        Reading::NotUtf8 => "NOTUTF8".to_owned(),
+        Reading::Panic => "PANIC".to_owned(),
+        Reading::Refused => "ERR".to_owned(),
+        Reading::Variant(variant) => format!("{}\t{}", record::line(variant), without_reference(variant)),
+    }
+}
+
+pub fn answer(text: &[u8]) -> String {
+    line(&read(text))
 }
 
 /// Empty for p: its Display needs a file of the crate that is not given.

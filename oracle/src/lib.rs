@@ -6,3 +6,4 @@ pub mod answer;
 pub mod parser;
 mod record;
 pub mod sequences;
+pub mod width;

@@ -4,7 +4,9 @@ use std::fs::File;
 use std::io::{BufRead, BufReader, Result};
 use std::{env, process};
 
-use oracle::answer::{answer, silence_panics};
+use oracle::answer::{answer, line, read, silence_panics, Reading};
+use oracle::parser::HgvsVariant;
+use oracle::width::width;
 
 const LIMIT: usize = 4096;
 const SHOWN: usize = 10;
@@ -81,17 +83,18 @@ fn read_line(file: &mut impl BufRead, line: &mut Vec<u8>) -> Result<bool> {
 }
 
 fn compare(text: &[u8], ours: &[u8], counts: &mut Counts) {
-    let theirs = answer(text);
+    let reading = read(text);
+    let theirs = line(&reading);
     let (count, verdict) = if text.len() > LIMIT {
         (&mut counts.too_long, same_if(ours == b"! 1 0"))
     } else {
-        match theirs.as_str() {
-            "PANIC" => (
+        match &reading {
+            Reading::Panic => (
                 &mut counts.panics,
                 same_if(ours == b"! 2 0" || does_not_fit(text, ours)),
             ),
-            "ERR" | "NOTUTF8" => (&mut counts.refused, same_if(ours == b"! 2 0")),
-            read => (&mut counts.records, compare_record(text, ours, read)),
+            Reading::Refused | Reading::NotUtf8 => (&mut counts.refused, same_if(ours == b"! 2 0")),
+            Reading::Variant(variant) => (&mut counts.records, compare_record(text, ours, variant, &theirs)),
         }
     };
     *count += 1;
@@ -119,17 +122,21 @@ fn same_if(same: bool) -> Verdict {
     }
 }
 
-/// Of a text that the Rust reads: the record; a shortest text that the Rust reads as that record; and the text without
-/// the reference.
-fn compare_record(text: &[u8], ours: &[u8], theirs: &str) -> Verdict {
+/// Of a text that the Rust reads: the record; a shortest text that the Rust reads as that record; the text without the
+/// reference; and the width.
+fn compare_record(text: &[u8], ours: &[u8], variant: &HgvsVariant, theirs: &str) -> Verdict {
     let Some((record, display)) = theirs.split_once('\t') else {
         return Verdict::Different;
     };
     let columns: Vec<_> = ours.split(|&byte| byte == b'\t').collect();
-    let [our_record, shortest, without_reference, _width] = columns[..] else {
+    let [our_record, shortest, without_reference, our_width] = columns[..] else {
         return Verdict::Different;
     };
     if our_record != record.as_bytes() || shortest.len() > text.len() || record_of(&answer(shortest)) != Some(record) {
+        return Verdict::Different;
+    }
+    let their_width = width(variant).map_or("! 7".to_owned(), |width| width.to_string());
+    if our_width != their_width.as_bytes() {
         return Verdict::Different;
     }
     if record.starts_with('p') {
