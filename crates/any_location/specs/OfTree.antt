@@ -4,7 +4,7 @@ use mathlib.Core.Path.{_≡_, refl}
 use mathlib.Core.Bool.{Bool, true, false}
 use lib.IntN.{ℤ, pos}
 use lib.ListN.{length}
-use Rattle.numerals.specs.declared.Sign.the-variants.{Plain}
+use Rattle.numerals.specs.declared.Sign.the-variants.{Unsigned}
 use Rattle.record.specs.declared.Span.{Span}
 use Rattle.record.specs.declared.Kind.{Kind}
 use Rattle.record.specs.declared.Kind.the-variants.{Cds, Genome, Mt, Tx, Prot, Rna}
@@ -44,11 +44,11 @@ abbrev pub unstarredOf : Based → Position
 unstarredOf (based m ds o) = withBase (number (signOf m) ds) Start (offsetOf o)
 
 abbrev pub genomicOf : Genomic → Position
-genomicOf (known ds) = knownAt (number Plain ds)
+genomicOf (known ds) = knownAt (number Unsigned ds)
 genomicOf unknown = notKnown
 
 abbrev pub residualOf : ℕ → Residual → Position
-residualOf at (residual r ds) = plainOf (spanOf at r) (number Plain ds) false
+residualOf at (residual r ds) = plainOf (spanOf at r) (number Unsigned ds) false
 
 abbrev pub positionOf : (k : Kind) → ℕ → G.PositionTree k → Position
 positionOf Cds at = basedOf

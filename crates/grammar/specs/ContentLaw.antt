@@ -5,7 +5,7 @@ use mathlib.Core.List.{List, [], _∷_, _++_}
 use mathlib.Core.Option.{Option, none, some}
 use lib.ListN.{length}
 use Rattle.texts.specs.Ascii.{ascii}
-use Rattle.numerals.specs.declared.Sign.the-variants.{Plain}
+use Rattle.numerals.specs.declared.Sign.the-variants.{Unsigned}
 use Rattle.record.specs.declared.Kind.{Kind}
 use Rattle.record.specs.declared.Kind.the-variants.{Cds, Genome, Mt, Tx, Prot, Rna}
 use Rattle.grammar.specs.Header.{HeaderTree, HeaderTree.header, printAccession, printGene, printHeader, printKind}
@@ -27,7 +27,7 @@ use Rattle.grammar.specs.Standing.{Stands, left, right, inner, stands-pa
 module _ (s : List ℕ) where
   -- ---- locations
   prot-content : (k : ℕ) (p : Residual) → Stands s k (printPosition Prot p) → positionContent s Prot (protAt k p) ≡ meaningPosition Prot p
-  prot-content k (residual r ds) h = ap (λ (x : List ℕ). protPosV x (number Plain ds)) (stands-part (left r _ h))
+  prot-content k (residual r ds) h = ap (λ (x : List ℕ). protPosV x (number Unsigned ds)) (stands-part (left r _ h))
 
   position-content : (kind : Kind) (k : ℕ) (p : PositionTree kind) → Stands s k (printPosition kind p) → positionContent s kind (positionAt kind k p) ≡ meaningPosition kind p
   position-content Cds k p h = refl
@@ -85,7 +85,7 @@ module _ (s : List ℕ) where
       let f = stands-part (left seq _ (right (ascii "del") h)) in
       let g = stands-part (right (ascii "ins") (right seq (right (ascii "del") h))) in
       cc
-  na-edit-content k (delNumIns ds seq1) h = ap (numAlt (number Plain ds)) (stands-part (right (ascii "ins") (right ds (right (ascii "del") h))))
+  na-edit-content k (delNumIns ds seq1) h = ap (numAlt (number Unsigned ds)) (stands-part (right (ascii "ins") (right ds (right (ascii "del") h))))
   na-edit-content k (delNum ds) h = refl
   na-edit-content k (del seq) h = ap delRef (stands-part (right (ascii "del") h))
   na-edit-content k (ins seq1) h = ap insV (stands-part (right (ascii "ins") h))

@@ -8,7 +8,7 @@ use mathlib.Core.Option.{Option, none, some}
 use lib.IntN.{ℤ, pos, negsuc}
 use Rattle.texts.specs.Ascii.{ascii}
 use Rattle.texts.specs.Tables.{Each, Agree, agreed}
-use Rattle.numerals.specs.declared.Sign.the-variants.{Plain, Minus, Negated}
+use Rattle.numerals.specs.declared.Sign.the-variants.{Unsigned, Minus, Negated}
 use Rattle.numerals.specs.Digits.{valFrom}
 use Rattle.numerals.specs.Reading.{orZero}
 use Rattle.record.specs.declared.Kind.{Kind}
@@ -225,13 +225,13 @@ values-agree = agreed values refl
 -- ---- numbers
 abbrev pub numbers : List (List Numeral × List Numeral)
 numbers =
-    (numbersAt 0 intronic, numeral 11 Minus (ascii "7") ∷ numeral 13 Plain (ascii "2") ∷ numeral 16 Plain (ascii "8") ∷ numeral 18 Minus (ascii "3") ∷ numeral 22 Plain (ascii "12") ∷ []) ∷
-    (numbersAt 0 inverted, numeral 16 Plain (ascii "5") ∷ numeral 22 Plain (ascii "3") ∷ []) ∷
-    (numbersAt 0 mitochondrial, numeral 10 Plain (ascii "76") ∷ numeral 17 Plain (ascii "12") ∷ []) ∷
-    (numbersAt 0 transcribed, numeral 12 Minus (ascii "7") ∷ numeral 14 Plain (ascii "2") ∷ []) ∷
-    (numbersAt 0 doubled, numeral 11 Plain (ascii "8") ∷ numeral 13 Plain (ascii "9") ∷ numeral 15 Minus (ascii "1") ∷ []) ∷
-    (numbersAt 0 lengthened, numeral 14 Plain (ascii "2") ∷ numeral 19 Plain (ascii "7") ∷ numeral 27 Negated (ascii "5") ∷ []) ∷
-    (numbersAt 0 shifted, numeral 13 Plain (ascii "2") ∷ numeral 22 Plain (ascii "9") ∷ []) ∷
+    (numbersAt 0 intronic, numeral 11 Minus (ascii "7") ∷ numeral 13 Unsigned (ascii "2") ∷ numeral 16 Unsigned (ascii "8") ∷ numeral 18 Minus (ascii "3") ∷ numeral 22 Unsigned (ascii "12") ∷ []) ∷
+    (numbersAt 0 inverted, numeral 16 Unsigned (ascii "5") ∷ numeral 22 Unsigned (ascii "3") ∷ []) ∷
+    (numbersAt 0 mitochondrial, numeral 10 Unsigned (ascii "76") ∷ numeral 17 Unsigned (ascii "12") ∷ []) ∷
+    (numbersAt 0 transcribed, numeral 12 Minus (ascii "7") ∷ numeral 14 Unsigned (ascii "2") ∷ []) ∷
+    (numbersAt 0 doubled, numeral 11 Unsigned (ascii "8") ∷ numeral 13 Unsigned (ascii "9") ∷ numeral 15 Minus (ascii "1") ∷ []) ∷
+    (numbersAt 0 lengthened, numeral 14 Unsigned (ascii "2") ∷ numeral 19 Unsigned (ascii "7") ∷ numeral 27 Negated (ascii "5") ∷ []) ∷
+    (numbersAt 0 shifted, numeral 13 Unsigned (ascii "2") ∷ numeral 22 Unsigned (ascii "9") ∷ []) ∷
     (numbersAt 0 (text (named none) Prot met1), []) ∷
     []
 

@@ -5,7 +5,7 @@ use mathlib.Core.Option.{Option, none, some}
 use lib.IntN.{ℤ}
 use Rattle.texts.specs.Ascii.{ascii}
 use Rattle.numerals.specs.declared.Sign.{Sign}
-use Rattle.numerals.specs.declared.Sign.the-variants.{Plain, Minus, Negated}
+use Rattle.numerals.specs.declared.Sign.the-variants.{Unsigned, Minus, Negated}
 use Rattle.numerals.specs.Digits.{val}
 use Rattle.numerals.specs.Reading.{orZero}
 use Rattle.record.specs.declared.Kind.{Kind}
@@ -40,10 +40,10 @@ number sign ds = orZero sign (val ds)
 
 -- ---- positions
 abbrev pub signOf : Mark → Sign
-signOf bare = Plain
-signOf plus = Plain
+signOf bare = Unsigned
+signOf plus = Unsigned
 signOf minus = Minus
-signOf star = Plain
+signOf star = Unsigned
 
 abbrev pub fromOf : Mark → CdsFrom
 fromOf bare = Start
@@ -54,7 +54,7 @@ fromOf star = End
 -- `+0` is an offset of 0, which differs from no offset
 abbrev pub offsetOf : OffsetTree → Declared.Offset
 offsetOf absent = Absent
-offsetOf (ahead ds) = By (number Plain ds)
+offsetOf (ahead ds) = By (number Unsigned ds)
 offsetOf (back ds) = By (number Minus ds)
 
 abbrev pub meaningCds : Based → CdsPos
@@ -67,15 +67,15 @@ abbrev pub meaningRna : Based → RnaPos
 meaningRna (based m ds o) = record { base = number (signOf m) ds; offset = offsetOf o }
 
 abbrev pub meaningGenome : Genomic → GenomePos
-meaningGenome (known ds) = AtG (number Plain ds)
+meaningGenome (known ds) = AtG (number Unsigned ds)
 meaningGenome unknown = UnknownG
 
 abbrev pub meaningMt : Genomic → MtPos
-meaningMt (known ds) = AtM (number Plain ds)
+meaningMt (known ds) = AtM (number Unsigned ds)
 meaningMt unknown = UnknownM
 
 abbrev pub meaningProt : Residual → ProtPosV
-meaningProt (residual r ds) = protPosV r (number Plain ds)
+meaningProt (residual r ds) = protPosV r (number Unsigned ds)
 
 abbrev pub meaningPosition : (k : Kind) → PositionTree k → PositionV k
 meaningPosition Cds = meaningCds
@@ -105,12 +105,12 @@ abbrev pub meaningNaEdit : NaEditTree → NaEditV
 meaningNaEdit (equal seq) = refAlt seq seq
 meaningNaEdit (swap a b) = refAlt (a ∷ []) (b ∷ [])
 meaningNaEdit (delIns seq seq1) = refAlt seq seq1
-meaningNaEdit (delNumIns ds seq1) = numAlt (number Plain ds) seq1
-meaningNaEdit (delNum ds) = delNum (number Plain ds)
+meaningNaEdit (delNumIns ds seq1) = numAlt (number Unsigned ds) seq1
+meaningNaEdit (delNum ds) = delNum (number Unsigned ds)
 meaningNaEdit (del seq) = delRef seq
 meaningNaEdit (ins seq1) = insV seq1
 meaningNaEdit (dup seq) = dupV seq
-meaningNaEdit (invNum ds) = invNum (number Plain ds)
+meaningNaEdit (invNum ds) = invNum (number Unsigned ds)
 meaningNaEdit (inv seq) = invRef seq
 
 abbrev pub meaningNaBody : (k : Kind) → NaBody k → NaBodyV k
@@ -118,7 +118,7 @@ meaningNaBody k = mapBoth (mapMu (meaningEnds k)) (mapMu meaningNaEdit)
 
 -- ---- protein edits
 abbrev pub lengthOf : Length → UncertainLengthChange
-lengthOf (counted ds) = Known (number Plain ds)
+lengthOf (counted ds) = Known (number Unsigned ds)
 lengthOf P.Length.unknown = Unknown
 lengthOf unsaid = None
 

@@ -6,7 +6,7 @@ use mathlib.Core.Option.{Option, none, some}
 use mathlib.Core.Bool.{cond}
 use lib.ListN.{length}
 use Rattle.numerals.specs.declared.Sign.{Sign}
-use Rattle.numerals.specs.declared.Sign.the-variants.{Plain, Minus, Negated}
+use Rattle.numerals.specs.declared.Sign.the-variants.{Unsigned, Minus, Negated}
 use Rattle.numerals.specs.Digits.{val}
 use Rattle.numerals.specs.Reading.{fits}
 use Rattle.record.specs.declared.Kind.{Kind}
@@ -38,18 +38,18 @@ Faultless ns = misfit ns ≡ none
 -- ---- positions
 abbrev pub offsetNumbers : ℕ → OffsetTree → List Numeral
 offsetNumbers k absent = []
-offsetNumbers k (ahead ds) = numeral (k + 1) Plain ds ∷ []
+offsetNumbers k (ahead ds) = numeral (k + 1) Unsigned ds ∷ []
 offsetNumbers k (back ds) = numeral (k + 1) Minus ds ∷ []
 
 abbrev pub basedNumbers : ℕ → Based → List Numeral
 basedNumbers k (based m ds o) = numeral (k + length (printMark m)) (signOf m) ds ∷ offsetNumbers (k + length (printMark m) + length ds) o
 
 abbrev pub genomicNumbers : ℕ → Genomic → List Numeral
-genomicNumbers k (known ds) = numeral k Plain ds ∷ []
+genomicNumbers k (known ds) = numeral k Unsigned ds ∷ []
 genomicNumbers k unknown = []
 
 abbrev pub residualNumbers : ℕ → Residual → List Numeral
-residualNumbers k (residual r ds) = numeral (k + length r) Plain ds ∷ []
+residualNumbers k (residual r ds) = numeral (k + length r) Unsigned ds ∷ []
 
 abbrev pub positionNumbers : (kind : Kind) → ℕ → PositionTree kind → List Numeral
 positionNumbers Cds = basedNumbers
@@ -73,17 +73,17 @@ abbrev pub naEditNumbers : ℕ → NaEditTree → List Numeral
 naEditNumbers k (equal seq) = []
 naEditNumbers k (swap a b) = []
 naEditNumbers k (delIns seq seq1) = []
-naEditNumbers k (delNumIns ds seq1) = numeral (k + 3) Plain ds ∷ []
-naEditNumbers k (delNum ds) = numeral (k + 3) Plain ds ∷ []
+naEditNumbers k (delNumIns ds seq1) = numeral (k + 3) Unsigned ds ∷ []
+naEditNumbers k (delNum ds) = numeral (k + 3) Unsigned ds ∷ []
 naEditNumbers k (del seq) = []
 naEditNumbers k (ins seq1) = []
 naEditNumbers k (dup seq) = []
-naEditNumbers k (invNum ds) = numeral (k + 3) Plain ds ∷ []
+naEditNumbers k (invNum ds) = numeral (k + 3) Unsigned ds ∷ []
 naEditNumbers k (inv seq) = []
 
 -- ---- protein edits
 abbrev pub lengthNumbers : ℕ → Length → List Numeral
-lengthNumbers k (counted ds) = numeral k Plain ds ∷ []
+lengthNumbers k (counted ds) = numeral k Unsigned ds ∷ []
 lengthNumbers k P.Length.unknown = []
 lengthNumbers k unsaid = []
 

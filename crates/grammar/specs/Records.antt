@@ -3,7 +3,7 @@ use Prim.Native.Nat.{ℕ, _+_}
 use mathlib.Core.List.{List, []}
 use mathlib.Core.Option.{Option, none, some}
 use lib.ListN.{length}
-use Rattle.numerals.specs.declared.Sign.the-variants.{Plain, Negated}
+use Rattle.numerals.specs.declared.Sign.the-variants.{Unsigned, Negated}
 use Rattle.record.specs.declared.Span.{Span}
 use Rattle.record.specs.declared.Part.{Part}
 use Rattle.record.specs.declared.Part.the-variants.{Absent, Present}
@@ -81,7 +81,7 @@ PositionR Prot = ProtPos
 PositionR Rna = RnaPos
 
 abbrev pub protAt : ℕ → Residual → ProtPos
-protAt k (residual r ds) = record { aa = spanOf k r; number = number Plain ds }
+protAt k (residual r ds) = record { aa = spanOf k r; number = number Unsigned ds }
 
 abbrev pub positionAt : (kind : Kind) → ℕ → PositionTree kind → PositionR kind
 positionAt Cds k = meaningCds
@@ -145,12 +145,12 @@ abbrev pub naEditAt : ℕ → NaEditTree → D.NaEdit
 naEditAt k (equal seq) = Na.RefAlt (spanOf k seq) (spanOf k seq)
 naEditAt k (swap a b) = Na.RefAlt (span k 1) (span (k + 2) 1)
 naEditAt k (delIns seq seq1) = Na.RefAlt (spanOf (k + 3) seq) (spanOf (k + 3 + length seq + 3) seq1)
-naEditAt k (delNumIns ds seq1) = Na.NumAlt (number Plain ds) (spanOf (k + 3 + length ds + 3) seq1)
-naEditAt k (delNum ds) = Na.DelNum (number Plain ds)
+naEditAt k (delNumIns ds seq1) = Na.NumAlt (number Unsigned ds) (spanOf (k + 3 + length ds + 3) seq1)
+naEditAt k (delNum ds) = Na.DelNum (number Unsigned ds)
 naEditAt k (del seq) = Na.DelRef (spanOf (k + 3) seq)
 naEditAt k (ins seq1) = Na.Ins (spanOf (k + 3) seq1)
 naEditAt k (dup seq) = Na.Dup (spanOf (k + 3) seq)
-naEditAt k (invNum ds) = Na.InvNum (number Plain ds)
+naEditAt k (invNum ds) = Na.InvNum (number Unsigned ds)
 naEditAt k (inv seq) = Na.InvRef (spanOf (k + 3) seq)
 
 abbrev pub muNaEditAt : ℕ → Mu NaEditTree → MuNaEdit

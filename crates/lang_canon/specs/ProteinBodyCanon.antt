@@ -13,7 +13,7 @@ use Rattle.texts.specs.Runs.{every}
 use Rattle.texts.specs.Words.{same, same-true}
 use Rattle.texts.specs.Best.{Best, shorter, best-refl, best-append, best-behind, best-trans}
 use Rattle.alphabet.specs.Letters.{digit}
-use Rattle.numerals.specs.declared.Sign.the-variants.{Plain}
+use Rattle.numerals.specs.declared.Sign.the-variants.{Unsigned}
 use Rattle.numerals.specs.Digits.{valFrom, val, decUpTo}
 use Rattle.numerals.specs.Decimals.{next-best}
 use Rattle.numerals.specs.Reading.{orZero}
@@ -159,7 +159,7 @@ one-digits : Digits (ascii "1")
 unfolding every digit
 one-digits = record { some = omega arith; all = refl }
 
-met-number : number Plain (ascii "1") ≡ pos 1
+met-number : number Unsigned (ascii "1") ≡ pos 1
 unfolding orZero valFrom
 met-number = refl
 
@@ -334,7 +334,7 @@ one-pair a b =
 -- a position Met 1
 met-one : (r ds : List ℕ) → Faultless (residualNumbers 0 (residual r ds)) → meaningProt (residual r ds) ≡ metOne → (r ≡ ascii "Met") × (val ds ≡ 1)
 met-one r ds f m =
-    let n = or-zero-fit Plain (val ds) (one-fits (0 + length r) Plain ds f) in
+    let n = or-zero-fit Unsigned (val ds) (one-fits (0 + length r) Unsigned ds f) in
     (cc, cc)
 
 -- any other text of Met 1 and Met 1 is no better than `Met01`

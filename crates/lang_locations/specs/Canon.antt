@@ -4,7 +4,7 @@ use mathlib.Core.List.{List}
 use mathlib.Core.Option.{Option, none, some}
 use mathlib.Core.Bool.{cond}
 use lib.IntN.{ℤ, pos, negsuc}
-use Rattle.numerals.specs.declared.Sign.the-variants.{Plain, Minus}
+use Rattle.numerals.specs.declared.Sign.the-variants.{Unsigned, Minus}
 use Rattle.numerals.specs.Written.{digitsOf, unsignedDigits}
 use Rattle.residue.specs.Residues.{isResidue}
 use Rattle.record.specs.declared.Kind.{Kind}
@@ -22,7 +22,7 @@ use Rattle.lang.specs.Canon.{mapO, bothO}
 -- `+0` for an offset of 0
 abbrev pub canonOffset : Declared.Offset → Option OffsetTree
 canonOffset Absent = some absent
-canonOffset (By (pos v)) = mapO ahead (digitsOf Plain v)
+canonOffset (By (pos v)) = mapO ahead (digitsOf Unsigned v)
 canonOffset (By (negsuc v)) = mapO back (digitsOf Minus (suc v))
 
 abbrev pub marked : Mark → List ℕ → OffsetTree → Based
@@ -30,7 +30,7 @@ marked m ds o = based m ds o
 
 -- a mark and digits; `0` for a base of 0
 abbrev pub canonBase : CdsFrom → ℤ → Option (OffsetTree → Based)
-canonBase Start (pos v) = mapO (marked bare) (digitsOf Plain v)
+canonBase Start (pos v) = mapO (marked bare) (digitsOf Unsigned v)
 canonBase Start (negsuc v) = mapO (marked minus) (digitsOf Minus (suc v))
 canonBase End z = mapO (marked star) (unsignedDigits z)
 

@@ -12,7 +12,7 @@ use borrow.Author.Tests.{le-leb}
 use Rattle.texts.specs.Ascii.{ascii}
 use Rattle.texts.specs.Best.{Best, best-refl, best-append, best-behind, best-less, best-more}
 use Rattle.texts.specs.Tests.{cond-some}
-use Rattle.numerals.specs.declared.Sign.the-variants.{Plain, Minus}
+use Rattle.numerals.specs.declared.Sign.the-variants.{Unsigned, Minus}
 use Rattle.numerals.specs.Digits.{val, dec}
 use Rattle.numerals.specs.Decimals.{dec-best}
 use Rattle.numerals.specs.Reading.{signed, most, fits}
@@ -51,8 +51,8 @@ record OffsetRight (v : Declared.Offset) (o : OffsetTree) : Type 0 where
 offset-right : (v : Declared.Offset) (o : OffsetTree) → canonOffset v ≡ some o → OffsetRight v o
 offset-right Absent o e = let j : absent ≡ o = cc in rw (← j) (record { wf = tt; fit = λ k. none-faultless; means = refl })
 offset-right (By (pos v)) o e =
-    let h = map-some ahead (digitsOf Plain v) o e in
-    let w = digits-written Plain v (h .0) (h .1 .0) in
+    let h = map-some ahead (digitsOf Unsigned v) o e in
+    let w = digits-written Unsigned v (h .0) (h .1 .0) in
     rw (← h .1 .1) (record { wf = w .digits; fit = λ k. written-faultless (k + 1) w; means = ap By (w .value) })
 offset-right (By (negsuc v)) o e =
     let h = map-some back (digitsOf Minus (suc v)) o e in
@@ -71,8 +71,8 @@ back-covers ds (suc v) w e h = record { tree = back (dec (suc v)); found = rw (l
 offset-covers : (u : OffsetTree) → WfOffset u → (k : ℕ) → Faultless (offsetNumbers k u) → OffsetCovered (offsetOf u) u
 offset-covers absent w k f = record { tree = absent; found = refl; best = best-refl }
 offset-covers (ahead ds) w k f =
-    let h = one-fits (k + 1) Plain ds f in
-    record { tree = ahead (dec (val ds)); found = rw (or-zero-fit Plain (val ds) h, digits-found Plain (val ds) h); best = best-behind (ascii "+") (dec-best w refl) }
+    let h = one-fits (k + 1) Unsigned ds f in
+    record { tree = ahead (dec (val ds)); found = rw (or-zero-fit Unsigned (val ds) h, digits-found Unsigned (val ds) h); best = best-behind (ascii "+") (dec-best w refl) }
 offset-covers (back ds) w k f =
     let h = one-fits (k + 1) Minus ds f in
     rw (or-zero-fit Minus (val ds) h) (back-covers ds (val ds) w refl h)
@@ -87,8 +87,8 @@ record BaseRight (from : CdsFrom) (z : ℤ) (base : OffsetTree → Based) : Type
 
 base-right : (from : CdsFrom) (z : ℤ) (base : OffsetTree → Based) → canonBase from z ≡ some base → BaseRight from z base
 base-right Start (pos v) base e =
-    let h = map-some (marked bare) (digitsOf Plain v) base e in
-    record { mark = bare; text = h .0; is = h .1 .1; written = digits-written Plain v (h .0) (h .1 .0); side = refl }
+    let h = map-some (marked bare) (digitsOf Unsigned v) base e in
+    record { mark = bare; text = h .0; is = h .1 .1; written = digits-written Unsigned v (h .0) (h .1 .0); side = refl }
 base-right Start (negsuc v) base e =
     let h = map-some (marked minus) (digitsOf Minus (suc v)) base e in
     record { mark = minus; text = h .0; is = h .1 .1; written = digits-written Minus (suc v) (h .0) (h .1 .0); side = refl }
@@ -123,8 +123,8 @@ minus-covers ds zero w e h = record { mark = bare; text = dec 0; found = refl; b
 minus-covers ds (suc v) w e h = record { mark = minus; text = dec (suc v); found = rw (le-leb (suc v) (most Minus) h); best = best-behind (ascii "-") (dec-best w e) }
 
 base-covers : (m : Mark) (ds : List ℕ) → Digits ds → val ds ≤ most (signOf m) → BaseCovered (fromOf m) (number (signOf m) ds) m ds
-base-covers bare ds w h = record { mark = bare; text = dec (val ds); found = rw (or-zero-fit Plain (val ds) h, digits-found Plain (val ds) h); best = dec-best w refl }
-base-covers plus ds w h = record { mark = bare; text = dec (val ds); found = rw (or-zero-fit Plain (val ds) h, digits-found Plain (val ds) h); best = best-more (code "+") (dec-best w refl) }
+base-covers bare ds w h = record { mark = bare; text = dec (val ds); found = rw (or-zero-fit Unsigned (val ds) h, digits-found Unsigned (val ds) h); best = dec-best w refl }
+base-covers plus ds w h = record { mark = bare; text = dec (val ds); found = rw (or-zero-fit Unsigned (val ds) h, digits-found Unsigned (val ds) h); best = best-more (code "+") (dec-best w refl) }
 base-covers minus ds w h = rw (or-zero-fit Minus (val ds) h) (minus-covers ds (val ds) w refl h)
 base-covers star ds w h = record { mark = star; text = dec (val ds); found = rw (unsigned-found (val ds) h); best = best-behind (ascii "*") (dec-best w refl) }
 
@@ -174,7 +174,7 @@ unstarred-covers m ds o w f = rw (unstarred-from m (w .0)) at (based-covers (bas
 
 -- ---- g, m: the number, where it is known
 abbrev numberIn : Genomic → Option ℤ
-numberIn (known ds) = some (number Plain ds)
+numberIn (known ds) = some (number Unsigned ds)
 numberIn unknown = none
 
 record GenomicRight (v : Option ℤ) (t : Genomic) : Type 0 where
@@ -195,7 +195,7 @@ record GenomicCovered (v : Option ℤ) (u : Genomic) : Type 0 where
   best : Best (printGenomic tree) (printGenomic u)
 
 genomic-covers : (u : Genomic) → WfGenomic u → Faultless (genomicNumbers 0 u) → GenomicCovered (numberIn u) u
-genomic-covers (known ds) w f = record { tree = known (dec (val ds)); found = rw (unsigned-found (val ds) (one-fits 0 Plain ds f)); best = dec-best w refl }
+genomic-covers (known ds) w f = record { tree = known (dec (val ds)); found = rw (unsigned-found (val ds) (one-fits 0 Unsigned ds f)); best = dec-best w refl }
 genomic-covers unknown w f = record { tree = unknown; found = refl; best = best-refl }
 
 -- in whatever record is unknown or has a number
@@ -253,7 +253,7 @@ coversPosition Mt (known ds) w f = let c = genomic-covers (known ds) w f in reco
 coversPosition Mt unknown w f = let c = genomic-covers unknown w f in record { tree = c .tree; found = c .found; best = c .best }
 coversPosition Tx (based m ds o) w f = let c = unstarred-covers m ds o w f in record { tree = c .tree; found = c .found; best = c .best }
 coversPosition Prot (residual r ds) w f =
-    record { tree = residual r (dec (val ds)); found = rw (w .0, unsigned-found (val ds) (one-fits (0 + length r) Plain ds f)); best = best-behind r (dec-best (w .1) refl) }
+    record { tree = residual r (dec (val ds)); found = rw (w .0, unsigned-found (val ds) (one-fits (0 + length r) Unsigned ds f)); best = best-behind r (dec-best (w .1) refl) }
 coversPosition Rna (based m ds o) w f = let c = unstarred-covers m ds o w f in record { tree = c .tree; found = c .found; best = c .best }
 
 abbrev pub posCanon : (k : Kind) → Canon (posLang k)

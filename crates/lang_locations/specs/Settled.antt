@@ -9,7 +9,7 @@ use lib.ListN.{length}
 use borrow.Author.Tests.{not-true}
 use Rattle.texts.specs.Tests.{clash, and-true, and-false}
 use Rattle.texts.specs.Words.{same}
-use Rattle.numerals.specs.declared.Sign.the-variants.{Plain, Minus}
+use Rattle.numerals.specs.declared.Sign.the-variants.{Unsigned, Minus}
 use Rattle.numerals.specs.Digits.{val}
 use Rattle.numerals.specs.Reading.{most, isPlain}
 use Rattle.numerals.specs.Signs.{or-zero-fit}
@@ -51,11 +51,11 @@ abbrev basedNumber : Based → ℤ
 basedNumber (based m ds o) = number (signOf m) ds
 
 abbrev genomicNumber : Genomic → ℤ
-genomicNumber (known ds) = number Plain ds
+genomicNumber (known ds) = number Unsigned ds
 genomicNumber unknown = pos 0
 
 abbrev residualNumber : Residual → ℤ
-residualNumber (residual r ds) = number Plain ds
+residualNumber (residual r ds) = number Unsigned ds
 
 abbrev pub numberIn : (k : Kind) → PositionTree k → ℤ
 numberIn Cds = basedNumber
@@ -77,14 +77,14 @@ settledLocation k = settledMu (settledEnds k)
 settled-offset : (k : ℕ) (o : OffsetTree) → WfOffset o → Faultless (offsetNumbers k o) → allPlain (offsetNumbers k o) ≡ true → canonOffset (offsetOf o) ≡ some o
 settled-offset k absent w f p = refl
 settled-offset k (ahead ds) w f p =
-    let h = one-fits (k + 1) Plain ds f in
-    rw (or-zero-fit Plain (val ds) h, plain-found ds w Plain h (one-plain (k + 1) Plain ds p))
+    let h = one-fits (k + 1) Unsigned ds f in
+    rw (or-zero-fit Unsigned (val ds) h, plain-found ds w Unsigned h (one-plain (k + 1) Unsigned ds p))
 settled-offset k (back ds) w f p =
     let m = minus-plain ds w (one-fits (k + 1) Minus ds f) (one-plain (k + 1) Minus ds p) in
     rw (m .value, m .found)
 
 settled-base : (m : Mark) (ds : List ℕ) → Digits ds → val ds ≤ most (signOf m) → isPlain (signOf m) ds ≡ true → plainMark m ≡ true → canonBase (fromOf m) (number (signOf m) ds) ≡ some (marked m ds)
-settled-base bare ds w h p e = rw (or-zero-fit Plain (val ds) h, plain-found ds w Plain h p)
+settled-base bare ds w h p e = rw (or-zero-fit Unsigned (val ds) h, plain-found ds w Unsigned h p)
 settled-base plus ds w h p e = absurd (clash e refl)
 settled-base minus ds w h p e = let m = minus-plain ds w h p in rw (m .value, m .found)
 settled-base star ds w h p e = rw (unsigned-plain ds w h p)
@@ -100,14 +100,14 @@ settled-based i m ds o w f p e =
 -- ---- every kind
 settled-position : (k : Kind) (i : ℕ) (t : PositionTree k) → WfPosition k t → Faultless (positionNumbers k i t) → allPlain (positionNumbers k i t) ≡ true → settledPosition k t ≡ true → canonPosition k (meaningPosition k t) ≡ some t
 settled-position Cds i (based m ds o) w f p e = settled-based i m ds o w f p e
-settled-position Genome i (known ds) w f p e = rw (unsigned-plain ds w (one-fits i Plain ds f) (one-plain i Plain ds p))
+settled-position Genome i (known ds) w f p e = rw (unsigned-plain ds w (one-fits i Unsigned ds f) (one-plain i Unsigned ds p))
 settled-position Genome i unknown w f p e = refl
-settled-position Mt i (known ds) w f p e = rw (unsigned-plain ds w (one-fits i Plain ds f) (one-plain i Plain ds p))
+settled-position Mt i (known ds) w f p e = rw (unsigned-plain ds w (one-fits i Unsigned ds f) (one-plain i Unsigned ds p))
 settled-position Mt i unknown w f p e = refl
 settled-position Tx i (based m ds o) w f p e = rw (unstarred-from m (w .0)) at (settled-based i m ds o (w .1) f p e)
 settled-position Prot i (residual r ds) w f p e =
     let k = i + length r in
-    rw (w .0, unsigned-plain ds (w .1) (one-fits k Plain ds f) (one-plain k Plain ds p))
+    rw (w .0, unsigned-plain ds (w .1) (one-fits k Unsigned ds f) (one-plain k Unsigned ds p))
 settled-position Rna i (based m ds o) w f p e = rw (unstarred-from m (w .0)) at (settled-based i m ds o (w .1) f p e)
 
 -- positions with different numbers differ

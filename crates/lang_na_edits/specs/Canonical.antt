@@ -16,7 +16,7 @@ use Rattle.texts.specs.Words.{same, same-true, same-refl, oneEach, one-each}
 use Rattle.numerals.specs.Digits.{val, dec}
 use Rattle.numerals.specs.Decimals.{dec-best}
 use Rattle.numerals.specs.Written.{unsignedDigits, unsigned-written, unsigned-found}
-use Rattle.numerals.specs.declared.Sign.the-variants.{Plain}
+use Rattle.numerals.specs.declared.Sign.the-variants.{Unsigned}
 use Rattle.grammar.specs.Shapes.{Mu, Mu.certain, Mu.uncertain, WfMu}
 use Rattle.grammar.specs.NucleotideEdits.{NaEditTree, NaEditTree.equal, NaEditTree.swap, NaEditTree.delIns, NaEditTree.delNumIns, NaEditTree.delNum, NaEditTree.del, NaEditTree.ins, NaEditTree.dup, NaEditTree.invNum, NaEditTree.inv, printNaEdit, WfNaEdit}
 use Rattle.grammar.specs.Values as Values
@@ -41,17 +41,17 @@ pub fits-anywhere : (j k : ℕ) (t : NaEditTree) → Faultless (naEditNumbers j 
 fits-anywhere j k (equal seq) e = none-faultless
 fits-anywhere j k (swap a b) e = none-faultless
 fits-anywhere j k (delIns seq seq1) e = none-faultless
-fits-anywhere j k (delNumIns ds seq1) e = one-anywhere (j + 3) (k + 3) Plain ds e
-fits-anywhere j k (delNum ds) e = one-anywhere (j + 3) (k + 3) Plain ds e
+fits-anywhere j k (delNumIns ds seq1) e = one-anywhere (j + 3) (k + 3) Unsigned ds e
+fits-anywhere j k (delNum ds) e = one-anywhere (j + 3) (k + 3) Unsigned ds e
 fits-anywhere j k (del seq) e = none-faultless
 fits-anywhere j k (ins seq1) e = none-faultless
 fits-anywhere j k (dup seq) e = none-faultless
-fits-anywhere j k (invNum ds) e = one-anywhere (j + 3) (k + 3) Plain ds e
+fits-anywhere j k (invNum ds) e = one-anywhere (j + 3) (k + 3) Unsigned ds e
 fits-anywhere j k (inv seq) e = none-faultless
 
 -- the tree of a count that fits is found with its decimal text
-counted : (f : List ℕ → NaEditTree) (k : ℕ) (ds : List ℕ) → Faultless (numeral k Plain ds ∷ []) → mapO f (unsignedDigits (number Plain ds)) ≡ some (f (dec (val ds)))
-counted f k ds e = ap (mapO f) (unsigned-found (val ds) (one-fits k Plain ds e))
+counted : (f : List ℕ → NaEditTree) (k : ℕ) (ds : List ℕ) → Faultless (numeral k Unsigned ds ∷ []) → mapO f (unsignedDigits (number Unsigned ds)) ≡ some (f (dec (val ds)))
+counted f k ds e = ap (mapO f) (unsigned-found (val ds) (one-fits k Unsigned ds e))
 
 module _ (na : ℕ → Bool) (al : Alphabet na) where
   abbrev RightEdit : NaEditV → NaEditTree → Type 0

@@ -10,7 +10,7 @@ use borrow.Author.Tests.{le-leb, eq-eqb, eqb-true, not-true}
 use Rattle.texts.specs.Tests.{clash, never, and-true}
 use Rattle.texts.specs.Runs.{one-every}
 use Rattle.texts.specs.Words.{same, same-true, same-refl, oneEach}
-use Rattle.numerals.specs.declared.Sign.the-variants.{Plain}
+use Rattle.numerals.specs.declared.Sign.the-variants.{Unsigned}
 use Rattle.numerals.specs.Written.{unsignedDigits}
 use Rattle.numerals.specs.Plain.{unsigned-plain}
 use Rattle.grammar.specs.Positions.{Digits}
@@ -38,8 +38,8 @@ settledNaEdit (invNum ds) = true
 settledNaEdit (inv seq) = true
 
 -- a count
-counted : (k : ℕ) (ds : List ℕ) → Digits ds → Faultless (numeral k Plain ds ∷ []) → allPlain (numeral k Plain ds ∷ []) ≡ true → unsignedDigits (number Plain ds) ≡ some ds
-counted k ds d f p = unsigned-plain ds d (one-fits k Plain ds f) (one-plain k Plain ds p)
+counted : (k : ℕ) (ds : List ℕ) → Digits ds → Faultless (numeral k Unsigned ds ∷ []) → allPlain (numeral k Unsigned ds ∷ []) ≡ true → unsignedDigits (number Unsigned ds) ≡ some ds
+counted k ds d f p = unsigned-plain ds d (one-fits k Unsigned ds f) (one-plain k Unsigned ds p)
 
 letters-differ : (x y : ℕ) → not (eqb x y) ≡ true → same (x ∷ []) (y ∷ []) ≡ false
 unfolding same

@@ -16,7 +16,7 @@ use Rattle.numerals.specs.Decimals.{dec-best}
 use Rattle.numerals.specs.Reading.{signed, most}
 use Rattle.numerals.specs.Signs.{or-zero-fit}
 use Rattle.numerals.specs.Written.{unsignedDigits, negatedDigits, unsigned-written, negated-written, unsigned-found, negated-found}
-use Rattle.numerals.specs.declared.Sign.the-variants.{Plain, Negated}
+use Rattle.numerals.specs.declared.Sign.the-variants.{Unsigned, Negated}
 use Rattle.residue.specs.Residues.{isResidue}
 use Rattle.record.specs.declared.UncertainLengthChange.{UncertainLengthChange}
 use Rattle.record.specs.declared.UncertainLengthChange.the-variants.{None, Unknown, Known}
@@ -75,7 +75,7 @@ length-right (Known z) n e =
 
 length-covers : (k : ℕ) (n : Length) → WfLength n → Faultless (lengthNumbers k n) → PartCovered printLength (canonLength (lengthOf n)) n
 length-covers k (counted ds) w f =
-    let h : val ds ≤ most Plain = one-fits k Plain ds f in
+    let h : val ds ≤ most Unsigned = one-fits k Unsigned ds f in
     record { tree = counted (dec (val ds)); is = ap (mapO counted) (unsigned-found (val ds) h); best = dec-best w refl }
 length-covers k unknown w f = record { tree = unknown; is = refl; best = best-refl }
 length-covers k unsaid w f = record { tree = unsaid; is = refl; best = best-refl }

@@ -10,7 +10,7 @@ use Rattle.texts.specs.Best.{best-refl, best-behind}
 use Rattle.texts.specs.Tests.{cond-some}
 use Rattle.texts.specs.Words.{same, same-true}
 use Rattle.numerals.specs.Reading.{fits}
-use Rattle.numerals.specs.declared.Sign.the-variants.{Plain, Negated}
+use Rattle.numerals.specs.declared.Sign.the-variants.{Unsigned, Negated}
 use Rattle.alphabet.specs.Letters.{residue}
 use Rattle.residue_rows.specs.Rows.{rows}
 use Rattle.residue.specs.Residues.{oneOf, isThree, isOne, isResidue, isResidues}
@@ -30,7 +30,7 @@ FitsProteinEdit t = Faultless (proteinEditNumbers 0 t)
 
 -- ---- whether an edit's number fits does not depend on where the edit stands
 length-anywhere : (j k : ℕ) (n : Length) → Faultless (lengthNumbers j n) → Faultless (lengthNumbers k n)
-length-anywhere j k (counted ds) e = one-anywhere j k Plain ds e
+length-anywhere j k (counted ds) e = one-anywhere j k Unsigned ds e
 length-anywhere j k unknown e = none-faultless
 length-anywhere j k unsaid e = none-faultless
 

@@ -6,7 +6,7 @@ use mathlib.Core.Option.{Option, none, some}
 use mathlib.Core.Bool.{Bool, true, false}
 use lib.ListN.{length}
 use Rattle.texts.specs.Tests.{clash}
-use Rattle.numerals.specs.declared.Sign.the-variants.{Plain}
+use Rattle.numerals.specs.declared.Sign.the-variants.{Unsigned}
 use Rattle.numerals.specs.Plain.{unsigned-plain}
 use Rattle.grammar.specs.Optional.{printOptional}
 use Rattle.grammar.specs.ProteinEdits.{Terminal, Length, Length.counted, Length.unknown, Length.unsaid, Stop, Stop.stop, ExtEnd, ExtEnd.nothing, ExtEnd.later, ExtEnd.earlier, ProteinEditTree, ProteinEditTree.subst, ProteinEditTree.substUnknown, ProteinEditTree.equal, ProteinEditTree.del, ProteinEditTree.dup, ProteinEditTree.ins, ProteinEditTree.delIns, ProteinEditTree.fs, ProteinEditTree.ext, printTerminal, WfLength, WfFsEnd, WfExtEnd, WfProteinEdit}
@@ -36,7 +36,7 @@ settledProteinEdit (fs r e) = true
 settledProteinEdit (ext r e) = settledExtEnd e
 
 settled-length : (k : ℕ) (n : Length) → WfLength n → Faultless (lengthNumbers k n) → allPlain (lengthNumbers k n) ≡ true → canonLength (lengthOf n) ≡ some n
-settled-length k (counted ds) w f p = rw (unsigned-plain ds w (one-fits k Plain ds f) (one-plain k Plain ds p))
+settled-length k (counted ds) w f p = rw (unsigned-plain ds w (one-fits k Unsigned ds f) (one-plain k Unsigned ds p))
 settled-length k unknown w f p = refl
 settled-length k unsaid w f p = refl
 

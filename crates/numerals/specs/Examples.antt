@@ -3,13 +3,13 @@ use mathlib.Core.Path.{refl}
 use mathlib.Core.List.{List, [], _∷_}
 use mathlib.Core.Bool.{Bool, true, false}
 use Rattle.texts.specs.Tables.{Each, Agree, agreed}
-use Rattle.numerals.specs.declared.Sign.the-variants.{Plain, Minus, Negated}
+use Rattle.numerals.specs.declared.Sign.the-variants.{Unsigned, Minus, Negated}
 use Rattle.numerals.specs.Reading.{fits}
 
 abbrev pub bounds : List (Bool × Bool)
 bounds =
-    (fits Plain 2147483647, true) ∷
-    (fits Plain 2147483648, false) ∷
+    (fits Unsigned 2147483647, true) ∷
+    (fits Unsigned 2147483648, false) ∷
     (fits Minus 2147483648, true) ∷
     (fits Minus 2147483649, false) ∷
     (fits Negated 2147483647, true) ∷

@@ -20,7 +20,7 @@ use Rattle.numerals.specs.Reading.{signed, most, orZero, mayBeZero, isPl
 use Rattle.numerals.specs.Signs.{or-zero-fit}
 use Rattle.numerals.specs.Written.{digitsOf, unsignedDigits, digits-found, unsigned-found}
 use Rattle.numerals.specs.declared.Sign.{Sign}
-use Rattle.numerals.specs.declared.Sign.the-variants.{Plain, Minus}
+use Rattle.numerals.specs.declared.Sign.the-variants.{Unsigned, Minus}
 
 -- a zero in front is the only digit
 only-zero : (sign : Sign) (b : ℕ) (s : List ℕ) → isPlain sign (b ∷ s) ≡ true → b ≡ code "0" → (b ∷ s ≡ code "0" ∷ []) × (mayBeZero sign ≡ true)
@@ -44,8 +44,8 @@ module _ (ds : List ℕ) (d : Some digit ds) where
   pub plain-found : (sign : Sign) → val ds ≤ most sign → isPlain sign ds ≡ true → digitsOf sign (val ds) ≡ some ds
   plain-found sign h p = digits-found sign (val ds) h ∙ ap some (plain-dec sign ds d p)
 
-  pub unsigned-plain : val ds ≤ most Plain → isPlain Plain ds ≡ true → unsignedDigits (orZero Plain (val ds)) ≡ some ds
-  unsigned-plain h p = unsigned-found (val ds) h ∙ ap some (plain-dec Plain ds d p)
+  pub unsigned-plain : val ds ≤ most Unsigned → isPlain Unsigned ds ≡ true → unsignedDigits (orZero Unsigned (val ds)) ≡ some ds
+  unsigned-plain h p = unsigned-found (val ds) h ∙ ap some (plain-dec Unsigned ds d p)
 
 -- with a minus they are below 0
 pub record Below (ds : List ℕ) : Type 0 where

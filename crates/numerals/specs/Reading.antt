@@ -11,18 +11,18 @@ use Rattle.texts.specs.Runs.{run, front}
 use Rattle.alphabet.specs.Letters.{digit}
 use Rattle.numerals.specs.Digits.{val}
 use Rattle.numerals.specs.declared.Sign.{Sign}
-use Rattle.numerals.specs.declared.Sign.the-variants.{Plain, Minus, Negated}
+use Rattle.numerals.specs.declared.Sign.the-variants.{Unsigned, Minus, Negated}
 use Rattle.numerals.specs.declared.Number.{Number}
 
 -- the number that digits of the value v are with a sign
 abbrev pub signed : Sign → ℕ → ℤ
-signed Plain v = pos v
+signed Unsigned v = pos v
 signed Minus v = negℤ (pos v)
 signed Negated v = negℤ (pos v)
 
 -- the largest value of the digits with which it fits
 abbrev pub most : Sign → ℕ
-most Plain = 2147483647
+most Unsigned = 2147483647
 most Minus = 2147483648
 most Negated = 2147483647
 
@@ -35,7 +35,7 @@ orZero sign v = cond (fits sign v) (signed sign v) (pos 0)
 
 -- whether 0 is plainly spelled with the sign
 abbrev pub mayBeZero : Sign → Bool
-mayBeZero Plain = true
+mayBeZero Unsigned = true
 mayBeZero Minus = false
 mayBeZero Negated = true
 

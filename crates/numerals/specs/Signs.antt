@@ -11,12 +11,12 @@ use mir.Val.{SFits, toZ, ofZ}
 use mir.Facts.{toZ-ofZ}
 use Rattle.numerals.specs.Reading.{signed, most, orZero}
 use Rattle.numerals.specs.declared.Sign.{Sign}
-use Rattle.numerals.specs.declared.Sign.the-variants.{Plain, Minus, Negated}
+use Rattle.numerals.specs.declared.Sign.the-variants.{Unsigned, Minus, Negated}
 
 -- ---- what is worth the same
 -- the sign with which a number is written
 unfoldable pub writtenSign : ℤ → Sign
-writtenSign (pos v) = Plain
+writtenSign (pos v) = Unsigned
 writtenSign (negsuc v) = Minus
 
 -- ---- what fits: a signed number exactly where an i32 holds it
@@ -25,17 +25,17 @@ minus-fits zero h = record { sfits = omega arith }
 minus-fits (suc v) h = record { sfits = omega arith }
 
 pub signed-fits : (sign : Sign) (v : ℕ) → v ≤ most sign → SFits w32 (signed sign v)
-signed-fits Plain v h = record { sfits = omega arith }
+signed-fits Unsigned v h = record { sfits = omega arith }
 signed-fits Minus v h = minus-fits v (omega arith)
 signed-fits Negated v h = minus-fits v (omega arith)
 
 pub most-bound : (sign : Sign) (v : ℕ) → v ≤ most sign → v ≤ 2147483648
-most-bound Plain v h = omega arith
+most-bound Unsigned v h = omega arith
 most-bound Minus v h = omega arith
 most-bound Negated v h = omega arith
 
-pub plain-most : (v : ℕ) → SFits w32 (signed Plain v) → v ≤ most Plain
-plain-most v h = omega arith
+pub unsigned-most : (v : ℕ) → SFits w32 (signed Unsigned v) → v ≤ most Unsigned
+unsigned-most v h = omega arith
 
 pub sign-most : (z : ℤ) → SFits w32 z → natAbs z ≤ most (writtenSign z)
 unfolding writtenSign

@@ -14,7 +14,7 @@ use Rattle.numerals.specs.Decimals.{dec-value, dec-some}
 use Rattle.numerals.specs.Reading.{signed, most, fits, orZero}
 use Rattle.numerals.specs.Signs.{or-zero-fit}
 use Rattle.numerals.specs.declared.Sign.{Sign}
-use Rattle.numerals.specs.declared.Sign.the-variants.{Plain, Negated}
+use Rattle.numerals.specs.declared.Sign.the-variants.{Unsigned, Negated}
 
 -- the decimal text, where digits of the value fit with the sign
 abbrev pub digitsOf : Sign → ℕ → Option (List ℕ)
@@ -22,7 +22,7 @@ digitsOf sign v = cond (fits sign v) (some (dec v)) none
 
 -- of an unsigned number
 abbrev pub unsignedDigits : ℤ → Option (List ℕ)
-unsignedDigits (pos v) = digitsOf Plain v
+unsignedDigits (pos v) = digitsOf Unsigned v
 unsignedDigits (negsuc v) = none
 
 -- of a number that is the negative of an unsigned one
@@ -44,8 +44,8 @@ digits-written sign v ds e =
     let j : dec v ≡ ds = cc (h .1) in
     rw (← j) (record { digits = dec-some v; fit = rw (dec-value v) l; value = rw (dec-value v) (or-zero-fit sign v l) })
 
-pub unsigned-written : (z : ℤ) (ds : List ℕ) → unsignedDigits z ≡ some ds → Written Plain z ds
-unsigned-written (pos v) ds e = digits-written Plain v ds e
+pub unsigned-written : (z : ℤ) (ds : List ℕ) → unsignedDigits z ≡ some ds → Written Unsigned z ds
+unsigned-written (pos v) ds e = digits-written Unsigned v ds e
 unsigned-written (negsuc v) ds e = absurd (none-some e)
 
 pub negated-written : (z : ℤ) (ds : List ℕ) → negatedDigits z ≡ some ds → Written Negated z ds
@@ -57,8 +57,8 @@ negated-written (negsuc v) ds e = digits-written Negated (suc v) ds e
 pub digits-found : (sign : Sign) (v : ℕ) → v ≤ most sign → digitsOf sign v ≡ some (dec v)
 digits-found sign v h = rw (le-leb v (most sign) h)
 
-pub unsigned-found : (v : ℕ) → v ≤ most Plain → unsignedDigits (orZero Plain v) ≡ some (dec v)
-unsigned-found v h = ap unsignedDigits (or-zero-fit Plain v h) ∙ digits-found Plain v h
+pub unsigned-found : (v : ℕ) → v ≤ most Unsigned → unsignedDigits (orZero Unsigned v) ≡ some (dec v)
+unsigned-found v h = ap unsignedDigits (or-zero-fit Unsigned v h) ∙ digits-found Unsigned v h
 
 negated-signed : (v : ℕ) → negatedDigits (signed Negated v) ≡ digitsOf Negated v
 negated-signed zero = refl

@@ -2,7 +2,7 @@
 
 // What stands before the digits: no sign or a plus, a minus, or what makes their negative of an unsigned number.
 pub enum Sign {
-    Plain,
+    Unsigned,
     Minus,
     Negated,
 }

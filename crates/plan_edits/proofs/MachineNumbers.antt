@@ -7,10 +7,10 @@ use borrow.Author.Tests.{le-leb}
 use mir.Syntax.{w32}
 use mir.Val.{SFits}
 use Rattle.numerals.specs.Reading.{most}
-use Rattle.numerals.specs.Signs.{plain-most}
-use Rattle.numerals.specs.declared.Sign.the-variants.{Plain}
+use Rattle.numerals.specs.Signs.{unsigned-most}
+use Rattle.numerals.specs.declared.Sign.the-variants.{Unsigned}
 use Rattle.plan_edits.specs.EditPlans.{isUnsigned}
 
 pub unsigned-test : (z : ℤ) → SFits w32 z → leZ (pos 0) z ≡ isUnsigned z
-unsigned-test (pos v) f = rw (leb·zero v, le-leb v (most Plain) (plain-most v f))
+unsigned-test (pos v) f = rw (leb·zero v, le-leb v (most Unsigned) (unsigned-most v f))
 unsigned-test (negsuc v) f = refl

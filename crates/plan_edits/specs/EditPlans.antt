@@ -5,7 +5,7 @@ use mathlib.Core.Option.{Option, none, some}
 use mathlib.Core.Bool.{Bool, false, cond}
 use lib.IntN.{ℤ, pos, negsuc}
 use Rattle.numerals.specs.Reading.{fits}
-use Rattle.numerals.specs.declared.Sign.the-variants.{Plain}
+use Rattle.numerals.specs.declared.Sign.the-variants.{Unsigned}
 use Rattle.record.specs.declared.Span.{Span}
 use Rattle.emit_word.specs.declared.Word.{Word}
 use Rattle.emit_word.specs.declared.Word.the-variants.{Empty}
@@ -38,5 +38,5 @@ wordAlone word = wordEdit word noSpan
 
 -- what unsigned digits that fit may be
 abbrev pub isUnsigned : ℤ → Bool
-isUnsigned (pos v) = fits Plain v
+isUnsigned (pos v) = fits Unsigned v
 isUnsigned (negsuc v) = false

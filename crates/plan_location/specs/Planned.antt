@@ -9,7 +9,7 @@ use lib.IntN.{ℤ, pos, negsuc, natAbs}
 use Rattle.texts.specs.Ascii.{ascii}
 use Rattle.texts.specs.Tests.{none-some}
 use Rattle.numerals.specs.declared.Sign.{Sign}
-use Rattle.numerals.specs.declared.Sign.the-variants.{Plain, Minus}
+use Rattle.numerals.specs.declared.Sign.the-variants.{Unsigned, Minus}
 use Rattle.numerals.specs.Digits.{dec}
 use Rattle.numerals.specs.Reading.{fits}
 use Rattle.numerals.specs.Signs.{writtenSign}
@@ -70,9 +70,9 @@ offsetText o = byteText (offsetSign o) ++ amountText (offsetAmount o)
 offset-canon : (x : List ℕ) (o : Declared.Offset) → mapO (λ (t : OffsetTree). x ++ printOffset t) (canonOffset o) ≡ cond (heldOffset o) (some (x ++ offsetText o)) none
 unfolding held writtenSign
 offset-canon x Absent = refl
-offset-canon x (By (pos v)) = go (fits Plain v) refl
+offset-canon x (By (pos v)) = go (fits Unsigned v) refl
   where
-    go : (t : Bool) → fits Plain v ≡ t → mapO (λ (o : OffsetTree). x ++ printOffset o) (canonOffset (By (pos v))) ≡ cond (heldOffset (By (pos v))) (some (x ++ offsetText (By (pos v)))) none
+    go : (t : Bool) → fits Unsigned v ≡ t → mapO (λ (o : OffsetTree). x ++ printOffset o) (canonOffset (By (pos v))) ≡ cond (heldOffset (By (pos v))) (some (x ++ offsetText (By (pos v)))) none
     go true e = rw e
     go false e = rw e
 offset-canon x (By (negsuc v)) = go (fits Minus (suc v)) refl
@@ -109,13 +109,13 @@ module _ (s : List ℕ) where
 
   start-text : (z : ℤ) (o : Declared.Offset) → endPlanText s (basedPlan Start z o) ≡ mapO printBased (canonBased Start z o)
   unfolding held writtenSign
-  start-text (pos v) o = based-text bare Nothing refl Plain (pos v) refl o
+  start-text (pos v) o = based-text bare Nothing refl Unsigned (pos v) refl o
   start-text (negsuc v) o = based-text minus (Byte (code "-")) refl Minus (negsuc v) refl o
 
   from-text : (from : CdsFrom) (z : ℤ) (o : Declared.Offset) → endPlanText s (basedPlan from z o) ≡ mapO printBased (canonBased from z o)
   unfolding held writtenSign
   from-text Start z o = start-text z o
-  from-text End (pos v) o = based-text star (Byte (code "*")) refl Plain (pos v) refl o
+  from-text End (pos v) o = based-text star (Byte (code "*")) refl Unsigned (pos v) refl o
   from-text End (negsuc v) o = refl
 
   -- an unsigned number behind a residue or nothing
@@ -123,9 +123,9 @@ module _ (s : List ℕ) where
       → (z : ℤ) → endPlanText s (unsignedPlan r Nothing z Absent) ≡ mapO print (mapO tree (unsignedDigits z))
   unfolding held writtenSign
   unsigned-text tree print r p (negsuc v) = refl
-  unsigned-text tree print r p (pos v) = end-text r Nothing (pos v) Absent ∙ go (fits Plain v) refl
+  unsigned-text tree print r p (pos v) = end-text r Nothing (pos v) Absent ∙ go (fits Unsigned v) refl
     where
-      go : (t : Bool) → fits Plain v ≡ t → cond (fits Plain v && true) (some (part s r ++ (dec v ++ []))) none ≡ mapO print (mapO tree (unsignedDigits (pos v)))
+      go : (t : Bool) → fits Unsigned v ≡ t → cond (fits Unsigned v && true) (some (part s r ++ (dec v ++ []))) none ≡ mapO print (mapO tree (unsignedDigits (pos v)))
       go true q = rw (q, p (dec v), append-nil (dec v))
       go false q = rw q
 

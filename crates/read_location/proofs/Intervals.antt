@@ -12,7 +12,7 @@ use lib.ListN.{length, take, drop, length-append, length-drop}
 use Rattle.texts.specs.Ascii.{ascii}
 use Rattle.texts.specs.Slices.{tail-part, tail-at, tail-beyond}
 use Rattle.texts.specs.Words.{starts, starts-length}
-use Rattle.numerals.specs.declared.Sign.the-variants.{Plain}
+use Rattle.numerals.specs.declared.Sign.the-variants.{Unsigned}
 use Rattle.numerals.specs.Digits.{val}
 use Rattle.numerals.specs.Signs.{or-zero-fits}
 use Rattle.record.specs.declared.Kind.{Kind}
@@ -52,12 +52,12 @@ number-in Rna at (based m ds o) = refl
 
 number-fits : (k : Kind) (t : Tree.PositionTree k) → SFits w32 (numberIn k t)
 number-fits Cds (based m ds o) = or-zero-fits (signOf m) (val ds)
-number-fits Genome (known ds) = or-zero-fits Plain (val ds)
+number-fits Genome (known ds) = or-zero-fits Unsigned (val ds)
 number-fits Genome unknown = record { sfits = omega arith }
-number-fits Mt (known ds) = or-zero-fits Plain (val ds)
+number-fits Mt (known ds) = or-zero-fits Unsigned (val ds)
 number-fits Mt unknown = record { sfits = omega arith }
 number-fits Tx (based m ds o) = or-zero-fits (signOf m) (val ds)
-number-fits Prot (residual r ds) = or-zero-fits Plain (val ds)
+number-fits Prot (residual r ds) = or-zero-fits Unsigned (val ds)
 number-fits Rna (based m ds o) = or-zero-fits (signOf m) (val ds)
 
 module _ (k : Kind) (at : ℕ) (s : List ℕ) where

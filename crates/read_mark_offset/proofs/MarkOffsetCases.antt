@@ -15,7 +15,7 @@ use Rattle.texts.specs.Slices.{tail-part}
 use Rattle.texts.specs.Words.{starts}
 use Rattle.alphabet.specs.Letters.{digit}
 use Rattle.numerals.specs.declared.Sign.{Sign}
-use Rattle.numerals.specs.declared.Sign.the-variants.{Plain, Minus}
+use Rattle.numerals.specs.declared.Sign.the-variants.{Unsigned, Minus}
 use Rattle.numerals.specs.declared.Number.{Number}
 use Rattle.numerals.specs.Reading.{numberAt}
 use Rattle.record.specs.declared.Offset.the-variants.{Absent, By}
@@ -77,9 +77,9 @@ behind-by at sign by s is = go (eqb (run digit s) 0)
     go false = let l : 1 + run digit s ≡ suc (length (front digit s)) = omega (arith, front-length digit s) in rw (is (front digit s), l)
 
 module _ (at : ℕ) (s : List ℕ) where
-  pub offset-ahead : starts (ascii "+") s ≡ true → offsetBehind at Plain (take (length s - 1) (drop 1 s)) ≡ offsetAnswer at (parseOffset s)
+  pub offset-ahead : starts (ascii "+") s ≡ true → offsetBehind at Unsigned (take (length s - 1) (drop 1 s)) ≡ offsetAnswer at (parseOffset s)
   unfolding parseOffset offsetAnswer
-  offset-ahead p = rw (tail-part 1 s, p) (behind-by at Plain ahead (drop 1 s) (λ ds. refl))
+  offset-ahead p = rw (tail-part 1 s, p) (behind-by at Unsigned ahead (drop 1 s) (λ ds. refl))
 
   pub offset-back : starts (ascii "+") s ≡ false → starts (ascii "-") s ≡ true → offsetBehind at Minus (take (length s - 1) (drop 1 s)) ≡ offsetAnswer at (parseOffset s)
   unfolding parseOffset offsetAnswer

@@ -32,7 +32,7 @@ pub fn mark_at(s: &[u8]) -> MarkRead
     if words::begins(s, b"+") {
         return MarkRead {
             len: 1,
-            sign: Sign::Plain,
+            sign: Sign::Unsigned,
             cds_from: CdsFrom::Start,
             plain: false,
         };
@@ -48,14 +48,14 @@ pub fn mark_at(s: &[u8]) -> MarkRead
     if words::begins(s, b"*") {
         return MarkRead {
             len: 1,
-            sign: Sign::Plain,
+            sign: Sign::Unsigned,
             cds_from: CdsFrom::End,
             plain: true,
         };
     }
     MarkRead {
         len: 0,
-        sign: Sign::Plain,
+        sign: Sign::Unsigned,
         cds_from: CdsFrom::Start,
         plain: true,
     }
@@ -92,7 +92,7 @@ pub fn offset_at(table: &[u8; 256], s: &[u8], at: usize) -> OffsetRead
     ensures { λ r. ⌜ r ≡ offsetAnswer at (parseOffset (now (s .entry))) ⌝ }
 {
     if words::begins(s, b"+") {
-        return offset_behind(table, &s[1..], at, Sign::Plain);
+        return offset_behind(table, &s[1..], at, Sign::Unsigned);
     }
     if words::begins(s, b"-") {
         return offset_behind(table, &s[1..], at, Sign::Minus);

@@ -10,14 +10,14 @@ ghost use lib.ListN.{length};
 ghost use Rattle.texts.specs.Runs.{front, behind};
 ghost use Rattle.alphabet.specs.Cells.{IsTable};
 ghost use Rattle.alphabet.specs.Letters.{digit, nucleotide};
-ghost use Rattle.numerals.specs.declared.Sign.the-variants.{Plain};
+ghost use Rattle.numerals.specs.declared.Sign.the-variants.{Unsigned};
 ghost use Rattle.numerals.specs.Reading.{numberAt};
 ghost use Rattle.lang_na_edits.specs.Parse.{afterDelNum, afterDel, parseDel};
 ghost use Rattle.read_na_forms.specs.NaEditAnswers.{naEditAnswer};
 
 // Behind `del`, where the number n stands: `ins` seq1, or nothing.
 fn after_del_num(table: &[u8; 256], s: &[u8], at: usize, n: Number) -> NaEditRead
-    requires { ⌜ (at + 3 + length (now s) ≤ 4096) × (n ≡ numberAt Plain (now s)) × IsTable (now table) ⌝ }
+    requires { ⌜ (at + 3 + length (now s) ≤ 4096) × (n ≡ numberAt Unsigned (now s)) × IsTable (now table) ⌝ }
     ensures { λ r. ⌜ r ≡ naEditAnswer at (some (afterDelNum nucleotide (front digit (now (s .entry))) (behind digit (now (s .entry))))) ⌝ }
 {
     let len = n.len;
@@ -50,7 +50,7 @@ fn after_del(table: &[u8; 256], s: &[u8], at: usize) -> NaEditRead
             read_scan::settled_if(m != b, read_scan::no_faults()),
         );
     }
-    let n = read_number::number_at(table, s, Sign::Plain);
+    let n = read_number::number_at(table, s, Sign::Unsigned);
     if n.len != 0 {
         return after_del_num(table, s, at, n);
     }

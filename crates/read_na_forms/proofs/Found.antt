@@ -14,7 +14,7 @@ use Rattle.texts.specs.Runs.{front}
 use Rattle.alphabet.specs.Letters.{digit}
 use Rattle.numerals.specs.Reading.{numberAt}
 use Rattle.numerals.specs.declared.Number.{Number}
-use Rattle.numerals.specs.declared.Sign.the-variants.{Plain}
+use Rattle.numerals.specs.declared.Sign.the-variants.{Unsigned}
 use Rattle.record.specs.declared.Span.{Span}
 use Rattle.record.specs.declared.NaEdit as D
 use Rattle.record.specs.declared.NaEdit.the-variants.{RefAlt, NumAlt}
@@ -67,16 +67,16 @@ module _ (k : ℕ) (f g : Faults) (eg : g ≡ none) where
       found-if k (delIns a b) (RefAlt p q) (3 + m + 3 + n) f (rw (h, i)) l refl (ef ∙ rw (em, en, eg))
 
 -- ---- the number n that stands at the front of s, behind a word of three letters
-module _ (s : List ℕ) (n : Number) (e : n ≡ numberAt Plain s) (k : ℕ) (f : Faults) (ef : f ≡ ofNumber (n .fits) (n .plain) (k + 3)) where
-  faults-are : f ≡ faults (numeral (k + 3) Plain (front digit s) ∷ []) true
-  faults-are = ef ∙ number-faults Plain s n e (k + 3)
+module _ (s : List ℕ) (n : Number) (e : n ≡ numberAt Unsigned s) (k : ℕ) (f : Faults) (ef : f ≡ ofNumber (n .fits) (n .plain) (k + 3)) where
+  faults-are : f ≡ faults (numeral (k + 3) Unsigned (front digit s) ∷ []) true
+  faults-are = ef ∙ number-faults Unsigned s n e (k + 3)
 
-  pub found-number : (made : ℤ → D.NaEdit) (t : NaEditTree) (w : List ℕ) → length w ≡ 3 → printNaEdit t ≡ w ++ front digit s → naEditAt k t ≡ made (number Plain (front digit s)) → naEditNumbers k t ≡ numeral (k + 3) Plain (front digit s) ∷ [] → settledNaEdit t ≡ true → Found (made (toZ w32 (ofZ w32 (n .value)))) (3 + n .len) f ≡ naEditAnswer k (some t)
+  pub found-number : (made : ℤ → D.NaEdit) (t : NaEditTree) (w : List ℕ) → length w ≡ 3 → printNaEdit t ≡ w ++ front digit s → naEditAt k t ≡ made (number Unsigned (front digit s)) → naEditNumbers k t ≡ numeral (k + 3) Unsigned (front digit s) ∷ [] → settledNaEdit t ≡ true → Found (made (toZ w32 (ofZ w32 (n .value)))) (3 + n .len) f ≡ naEditAnswer k (some t)
   found-number made t w l et er en es =
-      found k t (made (toZ w32 (ofZ w32 (n .value)))) (3 + n .len) f (rw (number-value Plain s n e, er)) (rw (et, length-append, l, number-len Plain s n e)) (rw (en, es) faults-are)
+      found k t (made (toZ w32 (ofZ w32 (n .value)))) (3 + n .len) f (rw (number-value Unsigned s n e, er)) (rw (et, length-append, l, number-len Unsigned s n e)) (rw (en, es) faults-are)
 
   pub found-num-ins : (m : ℕ) (b : List ℕ) (q : Span) → m ≡ length b → q ≡ span (k + 3 + n .len + 3) m → Found (NumAlt (toZ w32 (ofZ w32 (n .value))) q) (3 + n .len + 3 + m) f ≡ naEditAnswer k (some (delNumIns (front digit s) b))
   found-num-ins m b q em eq =
-      let h : q ≡ spanOf (k + 3 + length (front digit s) + 3) b = rw (eq, number-len Plain s n e, em) in
-      let l : 3 + n .len + 3 + m ≡ length (printNaEdit (delNumIns (front digit s) b)) = simp length-append (omega (arith, number-len Plain s n e)) in
-      found k (delNumIns (front digit s) b) (NumAlt (toZ w32 (ofZ w32 (n .value))) q) (3 + n .len + 3 + m) f (rw (number-value Plain s n e, h)) l faults-are
+      let h : q ≡ spanOf (k + 3 + length (front digit s) + 3) b = rw (eq, number-len Unsigned s n e, em) in
+      let l : 3 + n .len + 3 + m ≡ length (printNaEdit (delNumIns (front digit s) b)) = simp length-append (omega (arith, number-len Unsigned s n e)) in
+      found k (delNumIns (front digit s) b) (NumAlt (toZ w32 (ofZ w32 (n .value))) q) (3 + n .len + 3 + m) f (rw (number-value Unsigned s n e, h)) l faults-are

@@ -105,7 +105,7 @@ fn after_inv(table: &[u8; 256], s: &[u8], at: usize) -> NaEditRead
     requires { ⌜ (at + 3 + length (now s) ≤ 4096) × IsTable (now table) ⌝ }
     ensures { λ r. ⌜ r ≡ naEditAnswer at (some (afterInv nucleotide (now (s .entry)))) ⌝ }
 {
-    let n = read_number::number_at(table, s, Sign::Plain);
+    let n = read_number::number_at(table, s, Sign::Unsigned);
     let len = n.len;
     if len != 0 {
         return NaEditRead::Found(

@@ -18,7 +18,7 @@ fn limit(sign: Sign) -> u64
     ensures { λ r. ⌜ r ≡ most sign ⌝ }
 {
     match sign {
-        Sign::Plain => 2147483647,
+        Sign::Unsigned => 2147483647,
         Sign::Minus => 2147483648,
         Sign::Negated => 2147483647,
     }
@@ -37,7 +37,7 @@ fn with_sign(sign: Sign, v: u64) -> i32
     ensures { λ r. ⌜ r ≡ signed sign v ⌝ }
 {
     match sign {
-        Sign::Plain => v as i32,
+        Sign::Unsigned => v as i32,
         Sign::Minus => negative(v),
         Sign::Negated => negative(v),
     }
@@ -48,7 +48,7 @@ fn may_be_zero(sign: Sign) -> bool
     ensures { λ r. ⌜ r ≡ mayBeZero sign ⌝ }
 {
     match sign {
-        Sign::Plain => true,
+        Sign::Unsigned => true,
         Sign::Minus => false,
         Sign::Negated => true,
     }

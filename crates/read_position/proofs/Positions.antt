@@ -16,7 +16,7 @@ use Rattle.texts.specs.Runs.{run, front, behind, front-length}
 use Rattle.texts.specs.Slices.{tail-part}
 use Rattle.texts.specs.Words.{starts}
 use Rattle.alphabet.specs.Letters.{digit}
-use Rattle.numerals.specs.declared.Sign.the-variants.{Plain}
+use Rattle.numerals.specs.declared.Sign.the-variants.{Unsigned}
 use Rattle.numerals.specs.declared.Number.{Number}
 use Rattle.numerals.specs.Reading.{numberAt}
 use Rattle.residue.specs.Reading.{residueLen}
@@ -123,22 +123,22 @@ module _ (k : Kind) (at : ℕ) (s : List ℕ) where
   based-free e = rw e
 
 -- ---- g, m
-module _ (at : ℕ) (s : List ℕ) (n : Number) (en : n ≡ numberAt Plain s) where
+module _ (at : ℕ) (s : List ℕ) (n : Number) (en : n ≡ numberAt Unsigned s) where
   pub genomic-unknown : n .len ≡ 0 → starts (ascii "?") s ≡ true → (aa : Span) (p : Position) (f : Faults) → aa ≡ span 0 0 → p ≡ plainOf aa (pos 0) true → f ≡ noFault
       → Found p 1 f ≡ positionAnswer Genome at (parseGenomic s)
   unfolding parseGenomic answered
   genomic-unknown z q aa p f ea ep ef =
-      rw (digits-none (cond (starts (ascii "?") s) (some unknown) none) (λ ds. some (known ds)) s (sym (number-run Plain s n en) ∙ z), q, ep, ea, ef, faults-nil)
+      rw (digits-none (cond (starts (ascii "?") s) (some unknown) none) (λ ds. some (known ds)) s (sym (number-run Unsigned s n en) ∙ z), q, ep, ea, ef, faults-nil)
 
   pub genomic-none : n .len ≡ 0 → starts (ascii "?") s ≡ false → Nothing ≡ positionAnswer Genome at (parseGenomic s)
   unfolding parseGenomic answered
-  genomic-none z q = rw (digits-none (cond (starts (ascii "?") s) (some unknown) none) (λ ds. some (known ds)) s (sym (number-run Plain s n en) ∙ z), q)
+  genomic-none z q = rw (digits-none (cond (starts (ascii "?") s) (some unknown) none) (λ ds. some (known ds)) s (sym (number-run Unsigned s n en) ∙ z), q)
 
   pub genomic-some : (n .len ≡ 0 → ⊥) → (aa : Span) (p : Position) (f : Faults) → aa ≡ span 0 0 → p ≡ plainOf aa (toZ w32 (ofZ w32 (n .value))) false → f ≡ ofNumber (n .fits) (n .plain) at
       → Found p (n .len) f ≡ positionAnswer Genome at (parseGenomic s)
   unfolding parseGenomic answered
   genomic-some z aa p f ea ep ef =
-      rw (digits-some (cond (starts (ascii "?") s) (some unknown) none) (λ ds. some (known ds)) s (λ q. z (number-run Plain s n en ∙ q)), ep, ea, number-value Plain s n en, ef, number-faults Plain s n en at, number-len Plain s n en)
+      rw (digits-some (cond (starts (ascii "?") s) (some unknown) none) (λ ds. some (known ds)) s (λ q. z (number-run Unsigned s n en ∙ q)), ep, ea, number-value Unsigned s n en, ef, number-faults Unsigned s n en at, number-len Unsigned s n en)
 
 -- ---- p: k, the residue's length, and the number n behind it
 module _ (at : ℕ) (s : List ℕ) (k : ℕ) (ek : k ≡ residueLen s) where
@@ -149,16 +149,16 @@ module _ (at : ℕ) (s : List ℕ) (k : ℕ) (ek : k ≡ residueLen s) where
   unfolding parseResidual answered
   residual-none z = rw (← ek, z)
 
-  module _ (n : Number) (en : n ≡ numberAt Plain (take (length s - k) (drop k s))) where
-    behind-residue : n ≡ numberAt Plain (drop k s)
+  module _ (n : Number) (en : n ≡ numberAt Unsigned (take (length s - k) (drop k s))) where
+    behind-residue : n ≡ numberAt Unsigned (drop k s)
     behind-residue = en ∙ rw (tail-part k s)
 
     pub residual-number : k + n .len ≤ length s
-    residual-number = omega (arith, residual-le, number-le Plain (drop k s) n behind-residue, length-drop k s)
+    residual-number = omega (arith, residual-le, number-le Unsigned (drop k s) n behind-residue, length-drop k s)
 
     pub residual-bare : (k ≡ 0 → ⊥) → n .len ≡ 0 → Nothing ≡ positionAnswer Prot at (parseResidual s)
     unfolding parseResidual answered
-    residual-bare zk z = rw (← ek, ne-eqb k 0 zk, digits-none none (λ ds. some (residual (take k s) ds)) (drop k s) (sym (number-run Plain (drop k s) n behind-residue) ∙ z))
+    residual-bare zk z = rw (← ek, ne-eqb k 0 zk, digits-none none (λ ds. some (residual (take k s) ds)) (drop k s) (sym (number-run Unsigned (drop k s) n behind-residue) ∙ z))
 
     pub residual-some : (k ≡ 0 → ⊥) → (n .len ≡ 0 → ⊥) → (aa : Span) (p : Position) (f : Faults) → aa ≡ span at k → p ≡ plainOf aa (toZ w32 (ofZ w32 (n .value))) false → f ≡ ofNumber (n .fits) (n .plain) (at + k)
         → Found p (k + n .len) f ≡ positionAnswer Prot at (parseResidual s)
@@ -166,5 +166,5 @@ module _ (at : ℕ) (s : List ℕ) (k : ℕ) (ek : k ≡ residueLen s) where
     residual-some zk z aa p f ea ep ef =
         let y = drop k s in
         let a : length (take k s) ≡ k = length-take-le k s residual-le in
-        let l : k + n .len ≡ length (take k s ++ front digit y) = simp length-append (omega (arith, number-len Plain y n behind-residue)) in
-        rw (← ek, ne-eqb k 0 zk, digits-some none (λ ds. some (residual (take k s) ds)) y (λ q. z (number-run Plain y n behind-residue ∙ q)), ep, ea, number-value Plain y n behind-residue, ef, number-faults Plain y n behind-residue (at + k), l, a)
+        let l : k + n .len ≡ length (take k s ++ front digit y) = simp length-append (omega (arith, number-len Unsigned y n behind-residue)) in
+        rw (← ek, ne-eqb k 0 zk, digits-some none (λ ds. some (residual (take k s) ds)) y (λ q. z (number-run Unsigned y n behind-residue ∙ q)), ep, ea, number-value Unsigned y n behind-residue, ef, number-faults Unsigned y n behind-residue (at + k), l, a)

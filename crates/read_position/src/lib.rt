@@ -97,7 +97,7 @@ fn genome_pos(table: &[u8; 256], s: &[u8], at: usize) -> PositionRead
     requires { ⌜ (at + length (now s) ≤ 4096) × IsTable (now table) ⌝ }
     ensures { λ r. ⌜ r ≡ positionAnswer Genome at (parseGenomic (now (s .entry))) ⌝ }
 {
-    let n = read_number::number_at(table, s, Sign::Plain);
+    let n = read_number::number_at(table, s, Sign::Unsigned);
     if n.len == 0 {
         if words::begins(s, b"?") {
             return PositionRead::Found(
@@ -124,7 +124,7 @@ fn prot_pos(table: &[u8; 256], s: &[u8], at: usize) -> PositionRead
     if k == 0 {
         return PositionRead::Nothing;
     }
-    let n = read_number::number_at(table, &s[k..], Sign::Plain);
+    let n = read_number::number_at(table, &s[k..], Sign::Unsigned);
     if n.len == 0 {
         return PositionRead::Nothing;
     }

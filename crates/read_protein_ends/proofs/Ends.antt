@@ -18,7 +18,7 @@ use Rattle.texts.specs.Words.{starts, starts-length}
 use Rattle.alphabet.specs.Letters.{digit}
 use Rattle.numerals.specs.Reading.{numberAt}
 use Rattle.numerals.specs.declared.Number.{Number}
-use Rattle.numerals.specs.declared.Sign.the-variants.{Plain, Negated}
+use Rattle.numerals.specs.declared.Sign.the-variants.{Unsigned, Negated}
 use Rattle.residue.specs.Reading.{residueLen}
 use Rattle.residue.specs.ResiduesRead.{residue-le}
 use Rattle.record.specs.declared.Span.{Span}
@@ -72,16 +72,16 @@ module _ (s : List ℕ) where
 
 -- ---- lengths
 module _ (at : ℕ) (s : List ℕ) (f : Faults) where
-  pub length-counted : (n : Number) → n ≡ numberAt Plain s → (n .len ≡ 0 → ⊥) → f ≡ ofNumber (n .fits) (n .plain) at
+  pub length-counted : (n : Number) → n ≡ numberAt Unsigned s → (n .len ≡ 0 → ⊥) → f ≡ ofNumber (n .fits) (n .plain) at
       → _≡_ {A = LengthRead} (record { change = Known (toZ w32 (ofZ w32 (n .value))); len = n .len; faults = f }) (lengthRead at (lengthAt s))
   unfolding lengthRead lengthAt
   length-counted n e h ef =
-      let z : run digit s ≡ 0 → ⊥ = λ q. h (number-run Plain s n e ∙ q) in
-      rw (ne-eqb (run digit s) 0 z, number-value Plain s n e, number-len Plain s n e, ef, number-faults Plain s n e at)
+      let z : run digit s ≡ 0 → ⊥ = λ q. h (number-run Unsigned s n e ∙ q) in
+      rw (ne-eqb (run digit s) 0 z, number-value Unsigned s n e, number-len Unsigned s n e, ef, number-faults Unsigned s n e at)
 
-  module _ (n : Number) (e : n ≡ numberAt Plain s) (h : n .len ≡ 0) (ef : f ≡ noFault) where
+  module _ (n : Number) (e : n ≡ numberAt Unsigned s) (h : n .len ≡ 0) (ef : f ≡ noFault) where
     none-counted : eqb (run digit s) 0 ≡ true
-    none-counted = eq-eqb (run digit s) 0 (sym (number-run Plain s n e) ∙ h)
+    none-counted = eq-eqb (run digit s) 0 (sym (number-run Unsigned s n e) ∙ h)
 
     pub length-unknown : starts (ascii "?") s ≡ true → _≡_ {A = LengthRead} (record { change = Unknown; len = 1; faults = f }) (lengthRead at (lengthAt s))
     unfolding lengthRead lengthAt

@@ -52,7 +52,7 @@ fn length_at(table: &[u8; 256], s: &[u8], at: usize) -> LengthRead
     requires { ⌜ (at ≤ 4096) × IsTable (now table) ⌝ }
     ensures { λ r. ⌜ r ≡ lengthRead at (lengthAt (now (s .entry))) ⌝ }
 {
-    let n = read_number::number_at(table, s, Sign::Plain);
+    let n = read_number::number_at(table, s, Sign::Unsigned);
     if n.len != 0 {
         return LengthRead {
             change: UncertainLengthChange::Known(n.value),
