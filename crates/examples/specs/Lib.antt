@@ -5,3 +5,5 @@ pub mod Trees
 pub mod Reading
 pub mod Refused
 pub mod Widths
+pub mod NumberPlaces
+pub mod Twins

@@ -7,8 +7,9 @@ use mathlib.Core.List.{List, [], _∷_}
 use mathlib.Core.Option.{Option, none, some}
 use lib.IntN.{ℤ, pos, negsuc}
 use Rattle.texts.specs.Ascii.{ascii}
+use Rattle.texts.specs.Words.{starts}
 use Rattle.texts.specs.Tables.{Each, Agree, agreed}
-use Rattle.numerals.specs.declared.Sign.the-variants.{Unsigned, Minus, Negated}
+use Rattle.numerals.specs.declared.Sign.the-variants.{Unsigned, Plus, Minus, Negated}
 use Rattle.numerals.specs.Digits.{valFrom}
 use Rattle.numerals.specs.Reading.{orZero}
 use Rattle.record.specs.declared.Kind.{Kind}
@@ -32,7 +33,7 @@ use Rattle.grammar.specs.Texts.{Text, Text.text, print}
 use Rattle.grammar.specs.Values as Values
 use Rattle.grammar.specs.Values.{ProtPosV.protPosV, BodyV, HeaderV.headerV, Value, Value.value, NaEditV, NaEditV.refAlt, NaEditV.numAlt, NaEditV.delRef, NaEditV.insV, NaEditV.dupV, NaEditV.invRef, ProteinEditV, ProteinEditV.fsV, ProteinEditV.extV, ProteinEditV.substV, ProteinEditV.delInsV, ProteinEditV.insPV, ProteinEditV.delV, ProteinEditV.dupPV, ProteinEditV.identV, ProteinBodyV, ProteinBodyV.ordinary, ProteinBodyV.noChangeV, ProteinBodyV.noChangeUncertainV, ProteinBodyV.noProteinV, ProteinBodyV.noProteinUncertainV, ProteinBodyV.unknownV, ProteinBodyV.initiationUncertain}
 use Rattle.grammar.specs.Meaning.{meaningCds, meaningNaEdit, meaningProteinEdit, meaningProteinBody, meaning}
-use Rattle.grammar.specs.Numbers.{Numeral, Numeral.numeral, misfit, numbersAt}
+use Rattle.grammar.specs.Numbers.{Numeral, Numeral.numeral, misfit, notPlain, numbersAt}
 
 -- ---- trees
 -- AB_12.3, with or without a gene
@@ -229,7 +230,7 @@ numbers =
     (numbersAt 0 inverted, numeral 16 Unsigned (ascii "5") ∷ numeral 22 Unsigned (ascii "3") ∷ []) ∷
     (numbersAt 0 mitochondrial, numeral 10 Unsigned (ascii "76") ∷ numeral 17 Unsigned (ascii "12") ∷ []) ∷
     (numbersAt 0 transcribed, numeral 12 Minus (ascii "7") ∷ numeral 14 Unsigned (ascii "2") ∷ []) ∷
-    (numbersAt 0 doubled, numeral 11 Unsigned (ascii "8") ∷ numeral 13 Unsigned (ascii "9") ∷ numeral 15 Minus (ascii "1") ∷ []) ∷
+    (numbersAt 0 doubled, numeral 11 Plus (ascii "8") ∷ numeral 13 Unsigned (ascii "9") ∷ numeral 15 Minus (ascii "1") ∷ []) ∷
     (numbersAt 0 lengthened, numeral 14 Unsigned (ascii "2") ∷ numeral 19 Unsigned (ascii "7") ∷ numeral 27 Negated (ascii "5") ∷ []) ∷
     (numbersAt 0 shifted, numeral 13 Unsigned (ascii "2") ∷ numeral 22 Unsigned (ascii "9") ∷ []) ∷
     (numbersAt 0 (text (named none) Prot met1), []) ∷
@@ -267,3 +268,27 @@ misfits =
 pub misfits-agree : Each Agree misfits
 unfolding valFrom
 misfits-agree = agreed misfits refl
+
+abbrev pub unplains : List (Option ℕ × Option ℕ)
+unplains =
+    (notPlain (numbersAt 0 (onGenome "0")), none) ∷
+    (notPlain (numbersAt 0 (onGenome "0076")), some 10) ∷
+    (notPlain (numbersAt 0 (onGenome "99999999999")), none) ∷
+    (notPlain (numbersAt 0 (onCds (based plus (ascii "76") absent))), some 11) ∷
+    (notPlain (numbersAt 0 (onCds (based minus (ascii "76") absent))), none) ∷
+    (notPlain (numbersAt 0 (onCds (based minus (ascii "0") absent))), some 11) ∷
+    (notPlain (numbersAt 0 (onCds (based star (ascii "0") absent))), none) ∷
+    (notPlain (numbersAt 0 (onCds (based star (ascii "00") absent))), some 11) ∷
+    (notPlain (numbersAt 0 (onCds (based bare (ascii "76") (ahead (ascii "0"))))), none) ∷
+    (notPlain (numbersAt 0 (onCds (based bare (ascii "76") (ahead (ascii "5"))))), none) ∷
+    (notPlain (numbersAt 0 (onCds (based bare (ascii "76") (ahead (ascii "05"))))), some 13) ∷
+    (notPlain (numbersAt 0 (onCds (based bare (ascii "76") (back (ascii "0"))))), some 13) ∷
+    (notPlain (numbersAt 0 (onCds (based plus (ascii "76") (back (ascii "0"))))), some 11) ∷
+    (notPlain (numbersAt 0 (extended "0")), none) ∷
+    (notPlain (numbersAt 0 (extended "00")), some 21) ∷
+    (notPlain (numbersAt 0 (text (named none) Genome (both (certain (two (known (ascii "5")) (known (ascii "05")))) (certain (delNum (ascii "05")))))), some 12) ∷
+    []
+
+pub unplains-agree : Each Agree unplains
+unfolding starts
+unplains-agree = agreed unplains refl

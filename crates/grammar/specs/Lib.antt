@@ -13,6 +13,8 @@ pub mod Spans
 pub mod Records
 pub mod Numbers
 pub mod NumberLaws
+pub mod Respelled
+pub mod RespelledLaws
 pub mod Contents
 pub mod Standing
 pub mod ContentLaw

@@ -5,7 +5,7 @@ use mathlib.Core.Option.{Option, none, some}
 use lib.IntN.{ℤ}
 use Rattle.texts.specs.Ascii.{ascii}
 use Rattle.numerals.specs.declared.Sign.{Sign}
-use Rattle.numerals.specs.declared.Sign.the-variants.{Unsigned, Minus, Negated}
+use Rattle.numerals.specs.declared.Sign.the-variants.{Unsigned, Plus, Minus, Negated}
 use Rattle.numerals.specs.Digits.{val}
 use Rattle.numerals.specs.Reading.{orZero}
 use Rattle.record.specs.declared.Kind.{Kind}
@@ -41,7 +41,7 @@ number sign ds = orZero sign (val ds)
 -- ---- positions
 abbrev pub signOf : Mark → Sign
 signOf bare = Unsigned
-signOf plus = Unsigned
+signOf plus = Plus
 signOf minus = Minus
 signOf star = Unsigned
 

@@ -10,7 +10,8 @@ use borrow.Author.Tests.{leb-true, le-leb}
 use Rattle.texts.specs.Tests.{none-some, and-true, true-and}
 use Rattle.numerals.specs.declared.Sign.{Sign}
 use Rattle.numerals.specs.Digits.{val}
-use Rattle.numerals.specs.Reading.{fits, most, isPlain}
+use Rattle.numerals.specs.Spelling.{isPlain}
+use Rattle.numerals.specs.Reading.{fits, most}
 use Rattle.numerals.specs.Written.{Written}
 use Rattle.grammar.specs.Numbers.{Numeral, Numeral.numeral, misfit, Faultless}
 
@@ -34,6 +35,17 @@ every-append test (numeral place sign ds ∷ ms) ns = go (test sign ds) (every-a
     go : (b : Bool) → everyNumber test (ms ++ ns) ≡ everyNumber test ms && everyNumber test ns → b && everyNumber test (ms ++ ns) ≡ (b && everyNumber test ms) && everyNumber test ns
     go true h = h
     go false h = refl
+
+-- of tests that come out the same
+pub every-same : {test other : Sign → List ℕ → Bool} → ((sign : Sign) (ds : List ℕ) → test sign ds ≡ other sign ds) → (ns : List Numeral) → everyNumber test ns ≡ everyNumber other ns
+unfolding everyNumber
+every-same same [] = refl
+every-same same (numeral place sign ds ∷ ns) = rw (same sign ds, every-same same ns)
+
+pub every-so : {test : Sign → List ℕ → Bool} → ((sign : Sign) (ds : List ℕ) → test sign ds ≡ true) → (ns : List Numeral) → everyNumber test ns ≡ true
+unfolding everyNumber
+every-so so [] = refl
+every-so so (numeral place sign ds ∷ ns) = true-and (so sign ds) (every-so so ns)
 
 -- ---- what it says
 pub faultless-fits : (ns : List Numeral) → Faultless ns → misfit ns ≡ none

@@ -1,13 +1,15 @@
--- The numbers of a text from left to right, each with the place of its first digit, and the leftmost that does not fit.
+-- The numbers of a text from left to right, each with the place of its first digit; the leftmost that does not fit, and the leftmost that is not plainly
+-- spelled.
 use Prim.Native.Nat.{ℕ, _+_}
 use mathlib.Core.Path.{_≡_}
 use mathlib.Core.List.{List, [], _∷_, _++_}
 use mathlib.Core.Option.{Option, none, some}
-use mathlib.Core.Bool.{cond}
+use mathlib.Core.Bool.{Bool, cond}
 use lib.ListN.{length}
 use Rattle.numerals.specs.declared.Sign.{Sign}
 use Rattle.numerals.specs.declared.Sign.the-variants.{Unsigned, Minus, Negated}
 use Rattle.numerals.specs.Digits.{val}
+use Rattle.numerals.specs.Spelling.{isPlain}
 use Rattle.numerals.specs.Reading.{fits}
 use Rattle.record.specs.declared.Kind.{Kind}
 use Rattle.record.specs.declared.Kind.the-variants.{Cds, Genome, Mt, Tx, Prot, Rna}
@@ -26,10 +28,18 @@ use Rattle.grammar.specs.Meaning.{signOf}
 pub data Numeral : Type 0 where
   numeral : (place : ℕ) → Sign → List ℕ → Numeral
 
--- the place of the leftmost number that does not fit
+-- the place of the leftmost number that fails a test
+abbrev pub leftmostFailing : (Sign → List ℕ → Bool) → List Numeral → Option ℕ
+leftmostFailing test [] = none
+leftmostFailing test (numeral place sign ds ∷ ns) = cond (test sign ds) (leftmostFailing test ns) (some place)
+
+-- that does not fit
 abbrev pub misfit : List Numeral → Option ℕ
-misfit [] = none
-misfit (numeral place sign ds ∷ ns) = cond (fits sign (val ds)) (misfit ns) (some place)
+misfit = leftmostFailing (λ sign ds. fits sign (val ds))
+
+-- that is not plainly spelled
+abbrev pub notPlain : List Numeral → Option ℕ
+notPlain = leftmostFailing isPlain
 
 -- what is asked of the numbers of a text that is accepted: each fits
 unfoldable pub Faultless : List Numeral → Type 0

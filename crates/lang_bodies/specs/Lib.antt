@@ -5,6 +5,7 @@ pub mod BodyLang
 pub mod WholeText
 pub mod Trees
 pub mod Outcomes
+pub mod Spellings
 pub mod Settled
 pub mod Computing
 pub mod Examples

@@ -12,7 +12,7 @@ use borrow.Author.Tests.{le-leb}
 use Rattle.texts.specs.Ascii.{ascii}
 use Rattle.texts.specs.Best.{Best, best-refl, best-append, best-behind, best-less, best-more}
 use Rattle.texts.specs.Tests.{cond-some}
-use Rattle.numerals.specs.declared.Sign.the-variants.{Unsigned, Minus}
+use Rattle.numerals.specs.declared.Sign.the-variants.{Unsigned, Plus, Minus}
 use Rattle.numerals.specs.Digits.{val, dec}
 use Rattle.numerals.specs.Decimals.{dec-best}
 use Rattle.numerals.specs.Reading.{signed, most, fits}
@@ -124,7 +124,7 @@ minus-covers ds (suc v) w e h = record { mark = minus; text = dec (suc v); found
 
 base-covers : (m : Mark) (ds : List ℕ) → Digits ds → val ds ≤ most (signOf m) → BaseCovered (fromOf m) (number (signOf m) ds) m ds
 base-covers bare ds w h = record { mark = bare; text = dec (val ds); found = rw (or-zero-fit Unsigned (val ds) h, digits-found Unsigned (val ds) h); best = dec-best w refl }
-base-covers plus ds w h = record { mark = bare; text = dec (val ds); found = rw (or-zero-fit Unsigned (val ds) h, digits-found Unsigned (val ds) h); best = best-more (code "+") (dec-best w refl) }
+base-covers plus ds w h = record { mark = bare; text = dec (val ds); found = rw (or-zero-fit Plus (val ds) h, digits-found Unsigned (val ds) h); best = best-more (code "+") (dec-best w refl) }
 base-covers minus ds w h = rw (or-zero-fit Minus (val ds) h) (minus-covers ds (val ds) w refl h)
 base-covers star ds w h = record { mark = star; text = dec (val ds); found = rw (unsigned-found (val ds) h); best = best-behind (ascii "*") (dec-best w refl) }
 

@@ -10,7 +10,9 @@ use borrow.Author.Tests.{leb-true, leb-false}
 use Rattle.texts.specs.Tests.{clash}
 use Rattle.texts.specs.Best.{best-length}
 use Rattle.lent.specs.Put.{put, put-front}
+use Rattle.numerals.specs.Digits.{val}
 use Rattle.numerals.specs.Decimals.{dec-short}
+use Rattle.numerals.specs.Reading.{fits}
 use Rattle.record.specs.declared.HgvsVariant.{HgvsVariant}
 use Rattle.grammar.specs.Texts.{print, allLetters}
 use Rattle.grammar.specs.Contents.{content}
@@ -81,7 +83,7 @@ module _ (l : List ℕ) where
   pub refused-small : (n place : ℕ) → Reads allLetters l (refused n place) → (n < 2 ^ 32) × (place < 2 ^ 32)
   refused-small n place (Reads.tooLong h) = (omega arith, omega arith)
   refused-small n place (notInGrammar h g) = (omega arith, omega arith)
-  refused-small n place (doesNotFit h x w p e) = (omega arith, omega (arith, place-in-text allLetters x (w .wf) p e, ap length (w .text)))
+  refused-small n place (doesNotFit h x w p e) = (omega arith, omega (arith, place-in-text (λ sign ds. fits sign (val ds)) allLetters x (w .wf) p e, ap length (w .text)))
 
   answers-short : {a : List ℕ} → LineAnswer l a → length a ≤ limit
   answers-short (text v r t s) = omega (arith, best-length (s .best l (reads-content allLetters l v r)), accepted-short v r)

@@ -74,6 +74,11 @@ dec-value v = decimal v .value
 pub dec-some : (v : ℕ) → Some digit (dec v)
 dec-some v = decimal v .digits
 
+-- it begins with a zero where it is the one digit
+pub dec-zero : (v : ℕ) → getD (dec v) 0 0 ≡ code "0" → v ≡ 0
+unfolding valFrom
+dec-zero v e = sym (decimal v .value) ∙ ap val (decimal v .plain e)
+
 -- ---- among the digit strings of its value
 module _ {v : ℕ} {s : List ℕ} (ds : Some digit s) (e : val s ≡ v) where
   pub dec-shortest : length (dec v) ≤ length s

@@ -1,4 +1,5 @@
 pub mod Digits
+pub mod Spelling
 pub mod Reading
 pub mod Values
 pub mod Decimals
@@ -6,5 +7,6 @@ pub mod Signs
 pub mod Numbers
 pub mod Written
 pub mod Plain
+pub mod OnePlain
 pub mod Widened
 pub mod Examples

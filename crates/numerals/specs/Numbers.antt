@@ -4,7 +4,8 @@ use mathlib.Core.Path.{_≡_}
 use mathlib.Core.Bool.{Bool, true, false}
 use lib.IntN.{pos}
 use borrow.Author.Tests.{le-leb, lt-leb}
-use Rattle.numerals.specs.Reading.{signed, most, orZero, plainly, numberOf}
+use Rattle.numerals.specs.Spelling.{plainly}
+use Rattle.numerals.specs.Reading.{signed, most, orZero, numberOf}
 use Rattle.numerals.specs.declared.Sign.{Sign}
 
 -- ---- a number that fits, and one that does not

@@ -1,28 +1,28 @@
 -- What the digits at the front of a text are, with the sign that stood before them.
 use Prim.Native.Nat.{ℕ}
 use mathlib.Core.List.{List}
-use mathlib.Core.Bool.{Bool, true, false, cond, _&&_}
-use lib.Dec.{eqb, leb}
+use mathlib.Core.Bool.{Bool, cond}
+use lib.Dec.{leb}
 use lib.IntN.{ℤ, pos, negℤ}
-use lib.ListN.{length}
-use Rattle.texts.specs.Ascii.{ascii}
-use Rattle.texts.specs.Words.{starts}
 use Rattle.texts.specs.Runs.{run, front}
 use Rattle.alphabet.specs.Letters.{digit}
 use Rattle.numerals.specs.Digits.{val}
+use Rattle.numerals.specs.Spelling.{plainly, zeroFirst}
 use Rattle.numerals.specs.declared.Sign.{Sign}
-use Rattle.numerals.specs.declared.Sign.the-variants.{Unsigned, Minus, Negated}
+use Rattle.numerals.specs.declared.Sign.the-variants.{Unsigned, Plus, Minus, Negated}
 use Rattle.numerals.specs.declared.Number.{Number}
 
 -- the number that digits of the value v are with a sign
 abbrev pub signed : Sign → ℕ → ℤ
 signed Unsigned v = pos v
+signed Plus v = pos v
 signed Minus v = negℤ (pos v)
 signed Negated v = negℤ (pos v)
 
 -- the largest value of the digits with which it fits
 abbrev pub most : Sign → ℕ
 most Unsigned = 2147483647
+most Plus = 2147483647
 most Minus = 2147483648
 most Negated = 2147483647
 
@@ -32,22 +32,6 @@ fits sign v = leb v (most sign)
 -- the number where it fits, and else 0
 unfoldable pub orZero : Sign → ℕ → ℤ
 orZero sign v = cond (fits sign v) (signed sign v) (pos 0)
-
--- whether 0 is plainly spelled with the sign
-abbrev pub mayBeZero : Sign → Bool
-mayBeZero Unsigned = true
-mayBeZero Minus = false
-mayBeZero Negated = true
-
--- whether n digits are plainly spelled: the first is a zero only where it is the one digit 0, with no minus before it
-abbrev pub plainly : ℕ → Sign → Bool → Bool
-plainly n sign zero = cond zero (eqb n 1 && mayBeZero sign) true
-
-abbrev pub zeroFirst : List ℕ → Bool
-zeroFirst ds = starts (ascii "0") ds
-
-abbrev pub isPlain : Sign → List ℕ → Bool
-isPlain sign ds = plainly (length ds) sign (zeroFirst ds)
 
 -- n digits of the value v
 unfoldable pub numberOf : ℕ → Sign → ℕ → Bool → Number

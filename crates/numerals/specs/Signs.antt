@@ -11,7 +11,7 @@ use mir.Val.{SFits, toZ, ofZ}
 use mir.Facts.{toZ-ofZ}
 use Rattle.numerals.specs.Reading.{signed, most, orZero}
 use Rattle.numerals.specs.declared.Sign.{Sign}
-use Rattle.numerals.specs.declared.Sign.the-variants.{Unsigned, Minus, Negated}
+use Rattle.numerals.specs.declared.Sign.the-variants.{Unsigned, Plus, Minus, Negated}
 
 -- ---- what is worth the same
 -- the sign with which a number is written
@@ -26,11 +26,13 @@ minus-fits (suc v) h = record { sfits = omega arith }
 
 pub signed-fits : (sign : Sign) (v : ℕ) → v ≤ most sign → SFits w32 (signed sign v)
 signed-fits Unsigned v h = record { sfits = omega arith }
+signed-fits Plus v h = record { sfits = omega arith }
 signed-fits Minus v h = minus-fits v (omega arith)
 signed-fits Negated v h = minus-fits v (omega arith)
 
 pub most-bound : (sign : Sign) (v : ℕ) → v ≤ most sign → v ≤ 2147483648
 most-bound Unsigned v h = omega arith
+most-bound Plus v h = omega arith
 most-bound Minus v h = omega arith
 most-bound Negated v h = omega arith
 

@@ -1,8 +1,10 @@
 // Numbers as they are spelled: a sign and digits, and what is read of them.
 
-// What stands before the digits: no sign or a plus, a minus, or what makes their negative of an unsigned number.
+// What stands before the digits: no sign of their own, as behind the plus of an offset; a plus before a base; a minus; or what makes their negative of an
+// unsigned number.
 pub enum Sign {
     Unsigned,
+    Plus,
     Minus,
     Negated,
 }

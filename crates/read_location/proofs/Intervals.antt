@@ -3,7 +3,7 @@ use Prim.Native.Nat.{ℕ, _+_, _-_, _≤_}
 use mathlib.Core.Path.{_≡_, refl, sym, ap, _∙_}
 use mathlib.Core.List.{List, _++_}
 use mathlib.Core.Option.{none, some}
-use mathlib.Core.Bool.{true, false, not, _&&_}
+use mathlib.Core.Bool.{true, false, not}
 use native.Mathlib.Omega.{arith}
 use mir.Syntax.{w32}
 use mir.Val.{SFits, ofZ}
@@ -27,11 +27,11 @@ use Rattle.lang.specs.IntervalLang.{parseInterval}
 use Rattle.lang.specs.MuReading as Reading
 use Rattle.read_scan.specs.Accounts.{answered}
 use Rattle.read_scan.specs.declared.Faults.{Faults}
-use Rattle.read_scan.specs.Faults.{faults, first, settledIf, faults-append, settled-if}
+use Rattle.read_scan.specs.Faults.{faults, first, settledIf, faults-append, settled-only}
 use Rattle.lang_locations.specs.Parse.{parsePosition}
 use Rattle.lang_locations.specs.Languages.{posLang, endsLang}
 use Rattle.lang_locations.specs.Equal.{eqℤ, machine-equal}
-use Rattle.lang_locations.specs.Settled.{settledPosition, numberIn}
+use Rattle.lang_locations.specs.Settled.{numberIn}
 use Rattle.any_location.specs.declared.Position.{Position}
 use Rattle.read_position.specs.declared.PositionRead.the-variants as PR
 use Rattle.read_location.specs.declared.LocationRead.the-variants.{Nothing, Found}
@@ -68,7 +68,7 @@ module _ (k : Kind) (at : ℕ) (s : List ℕ) where
   -- where t stands first
   module _ (t : Tree.PositionTree k) (q : parsePosition k s ≡ some t) where
     one-is : starts (ascii "_") (drop (length (printPosition k t)) s) ≡ false
-        → Found (intervalOf k true at (one t)) (length (printPosition k t)) (faults (positionNumbers k at t) (settledPosition k t)) ≡ intervalAnswer k at (endsLang k .parse s)
+        → Found (intervalOf k true at (one t)) (length (printPosition k t)) (faults (positionNumbers k at t) true) ≡ intervalAnswer k at (endsLang k .parse s)
     unfolding parseInterval answered
     one-is j = rw (q, j)
 
@@ -78,13 +78,13 @@ module _ (k : Kind) (at : ℕ) (s : List ℕ) where
       half-is h = rw (q, j, h)
 
       two-is : (u : Tree.PositionTree k) → parsePosition k (drop 1 (drop (length (printPosition k t)) s)) ≡ some u
-          → Found (intervalOf k true at (two t u)) (length (printPosition k t) + 1 + length (printPosition k u)) (settledIf (not (eqℤ (numberIn k t) (numberIn k u))) (first (faults (positionNumbers k at t) (settledPosition k t)) (faults (positionNumbers k (at + length (printPosition k t) + 1) u) (settledPosition k u)))) ≡ intervalAnswer k at (endsLang k .parse s)
+          → Found (intervalOf k true at (two t u)) (length (printPosition k t) + 1 + length (printPosition k u)) (settledIf (not (eqℤ (numberIn k t) (numberIn k u))) (first (faults (positionNumbers k at t) true) (faults (positionNumbers k (at + length (printPosition k t) + 1) u) true))) ≡ intervalAnswer k at (endsLang k .parse s)
       unfolding parseInterval answered
       two-is u h =
           let l : length (printPosition k t) + 1 + length (printPosition k u) ≡ length (printPosition k t ++ (ascii "_" ++ printPosition k u)) = simp length-append (omega arith) in
           let ms = positionNumbers k at t in
           let ns = positionNumbers k (at + length (printPosition k t) + 1) u in
-          rw (q, j, h, l, ← faults-append ms ns (settledPosition k t) (settledPosition k u), settled-if (not (eqℤ (numberIn k t) (numberIn k u))) (ms ++ ns) (settledPosition k t && settledPosition k u))
+          rw (q, j, h, l, ← faults-append ms ns true true, settled-only (not (eqℤ (numberIn k t) (numberIn k u))) (ms ++ ns))
 
 -- what was read first
 module _ (k : Kind) {at : ℕ} {s : List ℕ} {p : Position} {n : ℕ} {f : Faults} (a : PositionTold k at s p n f) where
@@ -125,5 +125,5 @@ module _ (k : Kind) {at : ℕ} {s : List ℕ} {p : Position} {n : ℕ} {f : Faul
           let test : eqb (ofZ w32 (p .number)) (ofZ w32 (u .number)) ≡ eqℤ (numberIn k (a .tree)) (numberIn k (b .tree)) = rw (number, other) (machine-equal _ _ (number-fits k (a .tree)) (number-fits k (b .tree))) in
           let place : at + (n + 1) ≡ at + length (printPosition k (a .tree)) + 1 = omega (arith, a .long) in
           let means : u ≡ positionOf k (at + length (printPosition k (a .tree)) + 1) (b .tree) = b .means ∙ ap (λ (i : ℕ). positionOf k i (b .tree)) place in
-          let wrong : g ≡ faults (positionNumbers k (at + length (printPosition k (a .tree)) + 1) (b .tree)) (settledPosition k (b .tree)) = b .wrong ∙ ap (λ (i : ℕ). faults (positionNumbers k i (b .tree)) (settledPosition k (b .tree))) place in
+          let wrong : g ≡ faults (positionNumbers k (at + length (printPosition k (a .tree)) + 1) (b .tree)) true = b .wrong ∙ ap (λ (i : ℕ). faults (positionNumbers k i (b .tree)) true) place in
           cc (two-is k at s (a .tree) (a .parsed) joined (b .tree) (ap (parsePosition k) (sym next-is) ∙ b .parsed))

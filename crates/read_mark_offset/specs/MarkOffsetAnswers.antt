@@ -11,13 +11,12 @@ use Rattle.record.specs.declared.Offset.the-variants.{By}
 use Rattle.grammar.specs.Positions.{Mark, OffsetTree, OffsetTree.absent, printMark, printOffset}
 use Rattle.grammar.specs.Meaning.{number, signOf, fromOf, offsetOf}
 use Rattle.grammar.specs.Numbers.{Numeral.numeral, offsetNumbers}
-use Rattle.lang_locations.specs.Settled.{plainMark}
 use Rattle.read_scan.specs.Faults.{faults}
 use Rattle.read_mark_offset.specs.declared.MarkRead.{MarkRead}
 use Rattle.read_mark_offset.specs.declared.OffsetRead.{OffsetRead}
 
 abbrev pub markOf : Mark → MarkRead
-markOf m = record { len = length (printMark m); sign = signOf m; «cds_from» = fromOf m; plain = plainMark m }
+markOf m = record { len = length (printMark m); sign = signOf m; «cds_from» = fromOf m }
 
 unfoldable pub offsetAnswer : ℕ → OffsetTree → OffsetRead
 offsetAnswer at o = record { offset = offsetOf o; len = length (printOffset o); faults = faults (offsetNumbers at o) true }

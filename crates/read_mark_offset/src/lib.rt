@@ -11,12 +11,11 @@ ghost use Rattle.grammar.specs.Positions.{OffsetTree.absent};
 ghost use Rattle.lang_locations.specs.Parse.{parseMark, parseOffset};
 ghost use Rattle.read_mark_offset.specs.MarkOffsetAnswers.{markOf, offsetAnswer, offsetBehind};
 
-// What stands before the digits of a base: how long it is, what it says, and whether it is plainly spelled.
+// What stands before the digits of a base: how long it is, and what it says.
 pub struct MarkRead {
     pub len: usize,
     pub sign: Sign,
     pub cds_from: CdsFrom,
-    pub plain: bool,
 }
 
 // The offset, how long its text is, and what is wrong with its number.
@@ -32,9 +31,8 @@ pub fn mark_at(s: &[u8]) -> MarkRead
     if words::begins(s, b"+") {
         return MarkRead {
             len: 1,
-            sign: Sign::Unsigned,
+            sign: Sign::Plus,
             cds_from: CdsFrom::Start,
-            plain: false,
         };
     }
     if words::begins(s, b"-") {
@@ -42,7 +40,6 @@ pub fn mark_at(s: &[u8]) -> MarkRead
             len: 1,
             sign: Sign::Minus,
             cds_from: CdsFrom::Start,
-            plain: true,
         };
     }
     if words::begins(s, b"*") {
@@ -50,14 +47,12 @@ pub fn mark_at(s: &[u8]) -> MarkRead
             len: 1,
             sign: Sign::Unsigned,
             cds_from: CdsFrom::End,
-            plain: true,
         };
     }
     MarkRead {
         len: 0,
         sign: Sign::Unsigned,
         cds_from: CdsFrom::Start,
-        plain: true,
     }
 }
 

@@ -16,7 +16,8 @@ use Rattle.texts.specs.Words.{starts}
 use Rattle.alphabet.specs.Letters.{digit}
 use Rattle.numerals.specs.Digits.{val}
 use Rattle.numerals.specs.Values.{val-append, val-one}
-use Rattle.numerals.specs.Reading.{most, zeroFirst, tooLarge, numberOf, numberAt}
+use Rattle.numerals.specs.Spelling.{zeroFirst}
+use Rattle.numerals.specs.Reading.{most, tooLarge, numberOf, numberAt}
 use Rattle.numerals.specs.Signs.{most-bound}
 use Rattle.numerals.specs.Numbers.{number-misfit}
 use Rattle.numerals.specs.declared.Sign.{Sign}

@@ -1,2 +1,2 @@
 pub mod DigitLoops
-pub mod Negatives
+pub mod SignedValues

@@ -8,7 +8,8 @@ ghost use lib.IntN.{pos, negℤ};
 ghost use Rattle.alphabet.specs.Cells.{IsTable};
 ghost use Rattle.texts.specs.Ascii.{ascii};
 ghost use Rattle.texts.specs.Words.{starts};
-ghost use Rattle.numerals.specs.Reading.{signed, most, mayBeZero, plainly, tooLarge, numberOf, numberAt};
+ghost use Rattle.numerals.specs.Spelling.{plainSign, plainly};
+ghost use Rattle.numerals.specs.Reading.{signed, most, tooLarge, numberOf, numberAt};
 
 // A value with which no number fits: larger ones count as this one.
 const TOO_LARGE: u64 = 2147483649;
@@ -19,6 +20,7 @@ fn limit(sign: Sign) -> u64
 {
     match sign {
         Sign::Unsigned => 2147483647,
+        Sign::Plus => 2147483647,
         Sign::Minus => 2147483648,
         Sign::Negated => 2147483647,
     }
@@ -38,18 +40,20 @@ fn with_sign(sign: Sign, v: u64) -> i32
 {
     match sign {
         Sign::Unsigned => v as i32,
+        Sign::Plus => v as i32,
         Sign::Minus => negative(v),
         Sign::Negated => negative(v),
     }
 }
 
-// Whether 0 is plainly spelled with the sign.
-fn may_be_zero(sign: Sign) -> bool
-    ensures { λ r. ⌜ r ≡ mayBeZero sign ⌝ }
+// Whether no plus stands before a base, and no minus before zero.
+fn plain_sign(sign: Sign, zero: bool) -> bool
+    ensures { λ r. ⌜ r ≡ plainSign sign zero ⌝ }
 {
     match sign {
         Sign::Unsigned => true,
-        Sign::Minus => false,
+        Sign::Plus => false,
+        Sign::Minus => !zero,
         Sign::Negated => true,
     }
 }
@@ -59,12 +63,12 @@ fn is_plain(len: usize, sign: Sign, zero: bool) -> bool
     ensures { λ r. ⌜ r ≡ plainly len sign zero ⌝ }
 {
     if !zero {
-        return true;
+        return plain_sign(sign, false);
     }
     if len != 1 {
         return false;
     }
-    may_be_zero(sign)
+    plain_sign(sign, true)
 }
 
 fn number_of(len: usize, sign: Sign, v: u64, zero: bool) -> Number

@@ -32,10 +32,9 @@ use Rattle.grammar.specs.Numbers.{Numeral.numeral, offsetNumbers}
 use Rattle.read_scan.specs.Accounts.{answered}
 use Rattle.read_scan.specs.declared.Faults.{Faults}
 use Rattle.read_scan.specs.Reading.{number-run, number-len, number-le, number-value, number-faults}
-use Rattle.read_scan.specs.Faults.{faults, none as noFault, ofNumber, first, settledIf, faults-nil, faults-append, settled-only}
+use Rattle.read_scan.specs.Faults.{faults, none as noFault, ofNumber, first, faults-nil, faults-append}
 use Rattle.lang_locations.specs.Parse.{parseMark, parseOffset, parseBased, parseGenomic, parseResidual}
 use Rattle.lang_locations.specs.Sound.{digits-none, digits-some, mark-split, offset-sound}
-use Rattle.lang_locations.specs.Settled.{plainMark}
 use Rattle.any_location.specs.declared.Position.{Position}
 use Rattle.read_mark_offset.specs.declared.MarkRead.{MarkRead}
 use Rattle.read_mark_offset.specs.declared.OffsetRead.{OffsetRead}
@@ -55,14 +54,14 @@ offset-le at s = omega (arith, simp length-append at (ap length (offset-sound s 
 
 -- ---- c, n, r
 based-found : (at : ℕ) (m : Tree.Mark) (ds : List ℕ) (o : OffsetTree)
-    → Found (basedOf (based m ds o)) (length (printMark m) + length ds + length (printOffset o)) (settledIf (plainMark m) (first (faults (numeral (at + length (printMark m)) (signOf m) ds ∷ []) true) (faults (offsetNumbers (at + length (printMark m) + length ds) o) true)))
+    → Found (basedOf (based m ds o)) (length (printMark m) + length ds + length (printOffset o)) (first (faults (numeral (at + length (printMark m)) (signOf m) ds ∷ []) true) (faults (offsetNumbers (at + length (printMark m) + length ds) o) true))
     ≡ positionAnswer Cds at (some (based m ds o))
 unfolding answered
 based-found at m ds o =
     let l : length (printMark m) + length ds + length (printOffset o) ≡ length (printMark m ++ (ds ++ printOffset o)) = simp length-append (omega arith) in
     let ms = numeral (at + length (printMark m)) (signOf m) ds ∷ [] in
     let ns = offsetNumbers (at + length (printMark m) + length ds) o in
-    rw (l, ← faults-append ms ns true true, settled-only (plainMark m) (ms ++ ns))
+    rw (l, ← faults-append ms ns true true)
 
 -- the mark m, the number n behind it, and the offset o behind that
 module _ (at : ℕ) (s : List ℕ) (m : MarkRead) (em : m ≡ markOf (parseMark s)) where
@@ -101,16 +100,16 @@ module _ (at : ℕ) (s : List ℕ) (m : MarkRead) (em : m ≡ markOf (parseMark 
           let q : at + (k + run digit (drop k s)) ≡ at + k + length (front digit (drop k s)) = omega (arith, front-length digit (drop k s)) in
           eo ∙ rw (tail-part (m .len + n .len) s, em, l, q, drop-drop (run digit (drop k s)) k s)
 
-      pub based-some : (aa : Span) (f g x : Faults) → aa ≡ span 0 0 → f ≡ ofNumber (n .fits) (n .plain) (at + m .len) → g ≡ first f (o .faults) → x ≡ settledIf (m .plain) g
-          → Found (record { aa = aa; number = toZ w32 (ofZ w32 (n .value)); unknown = false; «cds_from» = m .«cds_from»; offset = o .offset }) (m .len + n .len + o .len) x ≡ positionAnswer Cds at (parseBased s)
+      pub based-some : (aa : Span) (f g : Faults) → aa ≡ span 0 0 → f ≡ ofNumber (n .fits) (n .plain) (at + m .len) → g ≡ first f (o .faults)
+          → Found (record { aa = aa; number = toZ w32 (ofZ w32 (n .value)); unknown = false; «cds_from» = m .«cds_from»; offset = o .offset }) (m .len + n .len + o .len) g ≡ positionAnswer Cds at (parseBased s)
       unfolding y parseBased offsetAnswer
-      based-some aa f g x ea ef eg ex =
+      based-some aa f g ea ef eg =
           let k = length (printMark (parseMark s)) in
           let ds = front digit y in
           let v : toZ w32 (ofZ w32 (n .value)) ≡ number (signOf (parseMark s)) ds = number-value (signOf (parseMark s)) y n read in
           let l : n .len ≡ length ds = number-len (signOf (parseMark s)) y n read in
           let h : f ≡ faults (numeral (at + k) (signOf (parseMark s)) ds ∷ []) true = ef ∙ rw em (number-faults (signOf (parseMark s)) y n read (at + k)) in
-          rw (digits-some none (λ ds. some (based (parseMark s) ds (parseOffset (behind digit y)))) y (λ q. z (number-run (signOf (parseMark s)) y n read ∙ q)), ex, eg, h, ea, v, l, offset-read, em)
+          rw (digits-some none (λ ds. some (based (parseMark s) ds (parseOffset (behind digit y)))) y (λ q. z (number-run (signOf (parseMark s)) y n read ∙ q)), eg, h, ea, v, l, offset-read, em)
           (based-found at (parseMark s) ds (parseOffset (behind digit y)))
 
 module _ (k : Kind) (at : ℕ) (s : List ℕ) where

@@ -51,10 +51,7 @@ fn cds_pos(table: &[u8; 256], s: &[u8], at: usize) -> PositionRead
             offset,
         },
         e + o.len,
-        read_scan::settled_if(
-            m.plain,
-            read_scan::leftmost(read_scan::faults_of(at + k, n), later),
-        ),
+        read_scan::leftmost(read_scan::faults_of(at + k, n), later),
     )
 }
 

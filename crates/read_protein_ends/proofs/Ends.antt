@@ -214,7 +214,9 @@ module _ (k n : ℕ) (s : List ℕ) (m : ℕ) (em : m ≡ residueLen s) where
         let l : length (printOptional [] (bytesOf m s)) ≡ m = bytes-length m s behind-residue in
         let a : length (printExtEnd (earlier (bytesOf m s) (front digit (digitsOf m s)))) ≡ m + (1 + d .len) = rw (length-append, l, number-len Negated (digitsOf m s) d digits) (omega arith) in
         let b : n + 3 + m + 1 + d .len ≡ n + 3 + length (printExtEnd (earlier (bytesOf m s) (front digit (digitsOf m s)))) = rw a (omega arith) in
-        rw (found-earlier e, b, ep, eq, bytes-part (k + n + 3) m s behind-residue, number-value Negated (digitsOf m s) d digits, eg, ef, l, number-faults Negated (digitsOf m s) d digits (k + n + 3 + m + 1), settled-only false (numeral (k + n + 3 + m + 1) Negated (front digit (digitsOf m s)) ∷ []))
+        let ns = numeral (k + n + 3 + m + 1) Negated (front digit (digitsOf m s)) ∷ [] in
+        let c : g ≡ faults ns false = eg ∙ ap (settledIf false) (ef ∙ number-faults Negated (digitsOf m s) d digits (k + n + 3 + m + 1)) ∙ settled-only false ns in
+        rw (found-earlier e, b, ep, eq, bytes-part (k + n + 3) m s behind-residue, number-value Negated (digitsOf m s) d digits, c, l)
 
 -- ---- behind `ext`: the first of the two that finds something
 module _ (k n : ℕ) (s : List ℕ) (r : ProteinEditRead) (e : r ≡ earlierRead k n (earlierAt s)) where

@@ -1,14 +1,14 @@
 -- What a routine answers for the tree that it found, or where there is none; and what such an answer says.
-use Prim.Native.Nat.{ℕ}
+use Prim.Native.Nat.{ℕ, _<_}
 use mathlib.Core.Path.{_≡_, sym}
 use mathlib.Core.List.{List}
 use mathlib.Core.Option.{Option, none, some}
 use mathlib.Core.Bool.{Bool}
 use lib.ListN.{length}
-use Rattle.grammar.specs.Numbers.{Numeral}
+use Rattle.grammar.specs.Numbers.{Numeral, misfit, notPlain}
 use Rattle.lang.specs.ByParsed.{by-answer}
 use Rattle.read_scan.specs.declared.Faults.{Faults}
-use Rattle.read_scan.specs.Faults.{faults}
+use Rattle.read_scan.specs.Faults.{notPlainly, doesNotFit, faults, verdict, verdict-unfit, verdict-not-plain, verdict-plain}
 
 -- what there is to say of a tree: what it is read as where it stands at a place, its text, its numbers there, and whether it is settled
 pub record Account (Tree Value : Type 0) : Type 0 where
@@ -44,3 +44,17 @@ module _ {Tree Value Answer : Type 0} {nothing : Answer} {found : Value → ℕ 
   pub unread : nothing ≡ answered nothing found A k (parse s) → parse s ≡ none
   unfolding answered
   unread e = by-answer (answered nothing found A k) (parse s) e (λ q z. q) (λ t q z. absurd (cases .apart (sym z)))
+
+-- ---- the places that are handed on: where no number does not fit, the leftmost that is not plain
+module _ {Tree Value : Type 0} {A : Account Tree Value} {k : ℕ} {parse : List ℕ → Option Tree} {s : List ℕ} {v : Value} {n : ℕ} {f : Faults} (t : Told A k parse s v n f) where
+  abbrev numbers : List Numeral
+  numbers = A .numbersAt k (t .tree)
+
+  pub told-unfit : verdict f .rank ≡ doesNotFit → misfit numbers ≡ some (verdict f .place)
+  told-unfit e = rw (← t .wrong) at (verdict-unfit numbers (A .settled (t .tree)) (rw (t .wrong) at e))
+
+  pub told-not-plain : verdict f .rank ≡ notPlainly → (misfit numbers ≡ none) × (notPlain numbers ≡ some (verdict f .place))
+  told-not-plain e = rw (← t .wrong) at (verdict-not-plain numbers (A .settled (t .tree)) (rw (t .wrong) at e))
+
+  pub told-plain : verdict f .rank < notPlainly → (misfit numbers ≡ none) × (notPlain numbers ≡ none)
+  told-plain h = verdict-plain numbers (A .settled (t .tree)) (rw (t .wrong) at h)

@@ -7,14 +7,16 @@ ghost use lib.ListN.{length};
 ghost use Rattle.texts.specs.Brackets.{opening as openingOf};
 ghost use Rattle.grammar.specs.Records.{span as spanFrom};
 ghost use Rattle.read_scan.specs.Closing.{closing as closingOf};
-ghost use Rattle.read_scan.specs.Faults.{none as noFault, notSettled, ofNumber, first, settledIf, verdict};
+ghost use Rattle.read_scan.specs.Faults.{none as noFault, notSettled, unless, ofNumber, first, settledIf, verdict};
 
 // What can be said of a part, in ranks: of several the highest is told. A part is settled where its text is shown to be the shortest of its record.
 pub const SETTLED: usize = 0;
 
 const NOT_SETTLED: usize = 1;
 
-pub const DOES_NOT_FIT: usize = 2;
+const NOT_PLAIN: usize = 2;
+
+pub const DOES_NOT_FIT: usize = 3;
 
 const RANKS: usize = 16;
 
@@ -87,22 +89,6 @@ pub fn unsettled() -> Faults
     Faults { code: NOT_SETTLED }
 }
 
-// What is wrong with a number whose first digit stands at `at`.
-pub fn faults_of(at: usize, n: Number) -> Faults
-    requires { ⌜ at ≤ 4096 ⌝ }
-    ensures { λ r. ⌜ r ≡ ofNumber (n .fits) (n .plain) at ⌝ }
-{
-    if !n.fits {
-        return Faults {
-            code: at * RANKS + DOES_NOT_FIT,
-        };
-    }
-    if n.plain {
-        return no_faults();
-    }
-    unsettled()
-}
-
 // The faults of two parts, one behind the other: the leftmost of the highest rank.
 pub fn leftmost(a: Faults, b: Faults) -> Faults
     ensures { λ r. ⌜ r ≡ first a b ⌝ }
@@ -111,6 +97,30 @@ pub fn leftmost(a: Faults, b: Faults) -> Faults
         return b;
     }
     a
+}
+
+// What a test tells that a number at `at` passes or not.
+fn fault_unless(passed: bool, rank: usize, at: usize) -> Faults
+    requires { ⌜ (rank < 16) × (at ≤ 4096) ⌝ }
+    ensures { λ r. ⌜ r ≡ unless passed rank at ⌝ }
+{
+    if passed {
+        return no_faults();
+    }
+    Faults {
+        code: at * RANKS + rank,
+    }
+}
+
+// What is wrong with a number whose first digit stands at `at`.
+pub fn faults_of(at: usize, n: Number) -> Faults
+    requires { ⌜ at ≤ 4096 ⌝ }
+    ensures { λ r. ⌜ r ≡ ofNumber (n .fits) (n .plain) at ⌝ }
+{
+    leftmost(
+        fault_unless(n.plain, NOT_PLAIN, at),
+        fault_unless(n.fits, DOES_NOT_FIT, at),
+    )
 }
 
 // The faults of a part that is settled only where a test holds.

@@ -1,6 +1,6 @@
 use borrow.Author.Needs.{needs}
 use mir.Facts.{toZ-ofZ}
-use Rattle.read_number.proofs.Negatives.{negative-fits, negative-wide, negative-is}
+use Rattle.read_number.proofs.SignedValues.{negative-fits, negative-wide, negative-is}
 use Rattle.read_number.proofs.negative.Statement.{statement}
 use Rattle.read_number.proofs.negative.Tie as tie
 

@@ -74,17 +74,14 @@ faults-of-requires c κs = omega (arith, mark-le (c .before .before .before .bef
 leftmost-requires : tie.Need-leftmost-requires
 leftmost-requires c κs = search needs
 
-settled-if-requires : tie.Need-settled-if-requires
-settled-if-requires c κs = search needs
-
 returns-2 : tie.Need-returns-2
 returns-2 c =
-    let l = c .before in
-    let o = l .before .before .before .before .before .before in
+    let f = c .before in
+    let o = f .before .before .before .before .before in
     let e = o .before .before .before in
     let n = e .before .before in
     let m = n .before .before in
-    based-some _ _ _ (m .mark-at .ensures) _ (n .number-at .ensures) (e .if1 .left) _ (o .offset-at .ensures) _ _ _ _ (l .before .before .before .before .span .ensures) (l .before .faults-of .ensures) (l .leftmost .ensures) (c .settled-if .ensures)
+    based-some _ _ _ (m .mark-at .ensures) _ (n .number-at .ensures) (e .if1 .left) _ (o .offset-at .ensures) _ _ _ (f .before .before .before .span .ensures) (f .faults-of .ensures) (c .leftmost .ensures)
 
 pub cds-pos-spec : {M : Type 1} → statement M
 cds-pos-spec =
@@ -107,5 +104,4 @@ cds-pos-spec =
     add-faults-of
     faults-of-requires
     leftmost-requires
-    settled-if-requires
     returns-2)
