@@ -22,7 +22,7 @@ use Rattle.grammar.specs.Bodies.{Ends}
 use Rattle.grammar.specs.Records.{PositionR, positionAt, interval, intervalAt, MuIntervalR, certainly, uncertainly, locationAt}
 use Rattle.any_location.specs.declared.Position.{Position}
 use Rattle.any_location.specs.declared.Location.{Location}
-use Rattle.any_location.specs.OfTree.{withBase, plainOf, knownAt, notKnown, positionOf, intervalOf, locationOf}
+use Rattle.any_location.specs.OfTree.{withBase, unmarkedOf, knownAt, notKnown, positionOf, intervalOf, locationOf}
 
 abbrev pub anyPosition : (k : Kind) → PositionR k → Position
 anyPosition Cds p = withBase (p .base) (p .«cds_from») (p .offset)
@@ -31,7 +31,7 @@ anyPosition Genome (G.At z) = knownAt z
 anyPosition Mt M.Unknown = notKnown
 anyPosition Mt (M.At z) = knownAt z
 anyPosition Tx p = withBase (p .base) Start (p .offset)
-anyPosition Prot p = plainOf (p .aa) (p .number) false
+anyPosition Prot p = unmarkedOf (p .aa) (p .number) false
 anyPosition Rna p = withBase (p .base) Start (p .offset)
 
 abbrev pub anyMu : (k : Kind) → Bool → PositionR k → PositionR k → Location

@@ -26,14 +26,14 @@ use Rattle.any_location.specs.declared.Location.{Location}
 abbrev pub withBase : ℤ → CdsFrom → Offset → Position
 withBase n from o = record { aa = span 0 0; number = n; unknown = false; «cds_from» = from; offset = o }
 
-abbrev pub plainOf : Span → ℤ → Bool → Position
-plainOf aa n isUnknown = record { aa = aa; number = n; unknown = isUnknown; «cds_from» = Start; offset = Absent }
+abbrev pub unmarkedOf : Span → ℤ → Bool → Position
+unmarkedOf aa n isUnknown = record { aa = aa; number = n; unknown = isUnknown; «cds_from» = Start; offset = Absent }
 
 abbrev pub knownAt : ℤ → Position
-knownAt n = plainOf (span 0 0) n false
+knownAt n = unmarkedOf (span 0 0) n false
 
 abbrev pub notKnown : Position
-notKnown = plainOf (span 0 0) (pos 0) true
+notKnown = unmarkedOf (span 0 0) (pos 0) true
 
 -- ---- of a tree
 abbrev pub basedOf : Based → Position
@@ -48,7 +48,7 @@ genomicOf (known ds) = knownAt (number Unsigned ds)
 genomicOf unknown = notKnown
 
 abbrev pub residualOf : ℕ → Residual → Position
-residualOf at (residual r ds) = plainOf (spanOf at r) (number Unsigned ds) false
+residualOf at (residual r ds) = unmarkedOf (spanOf at r) (number Unsigned ds) false
 
 abbrev pub positionOf : (k : Kind) → ℕ → G.PositionTree k → Position
 positionOf Cds at = basedOf

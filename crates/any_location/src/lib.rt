@@ -3,7 +3,7 @@ use record::CdsFrom;
 use record::Offset;
 use record::Span;
 ghost use mathlib.Core.Path.{_≡_};
-ghost use Rattle.any_location.specs.OfTree.{plainOf, uncertainOf};
+ghost use Rattle.any_location.specs.OfTree.{unmarkedOf, uncertainOf};
 
 // A position of any kind. Where a kind has no residue, none unknown, no anchor or no offset, 0..0, false, the start or no offset stands.
 pub struct Position {
@@ -22,8 +22,8 @@ pub struct Location {
 }
 
 // A position with no offset, from the start.
-pub fn plain(aa: Span, number: i32, unknown: bool) -> Position
-    ensures { λ r. ⌜ r ≡ plainOf aa number unknown ⌝ }
+pub fn unmarked(aa: Span, number: i32, unknown: bool) -> Position
+    ensures { λ r. ⌜ r ≡ unmarkedOf aa number unknown ⌝ }
 {
     Position {
         aa,

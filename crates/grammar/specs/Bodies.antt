@@ -60,7 +60,7 @@ printProteinBody (bracketed b) = ascii "(" ++ (printBoth (printEnds Prot) printP
 
 -- the exact texts `Met1?` and `(Met1?)` are never read as location and edit
 pub record NotMet1 (t : List ℕ) : Type 0 where
-  pub plain : t ≡ ascii "Met1?" → ⊥
+  pub bare : t ≡ ascii "Met1?" → ⊥
   pub inBrackets : t ≡ ascii "(Met1?)" → ⊥
 
 abbrev pub WfProteinBody : ProteinBody → Type 0

@@ -219,9 +219,9 @@ differ {a} {b} e f = let h : same a b ≡ true = rw (← e) (same-refl a) in cla
 pub bodies-formed : Each WfProteinBody bodies
 unfolding every digit rows same oneOf isThree isOne isResidue
 bodies-formed = (
-  (((refl, some-of refl), tt), record { plain = λ e. differ e refl; inBrackets = λ e. differ e refl }),
+  (((refl, some-of refl), tt), record { bare = λ e. differ e refl; inBrackets = λ e. differ e refl }),
   (
-    (((refl, some-of refl), tt), record { plain = λ e. differ e refl; inBrackets = λ e. differ e refl }),
+    (((refl, some-of refl), tt), record { bare = λ e. differ e refl; inBrackets = λ e. differ e refl }),
     tt,
   ),
 )
@@ -233,4 +233,4 @@ misformedBodies =
     []
 
 pub bodies-misformed : Each (Not WfProteinBody) misformedBodies
-bodies-misformed = (λ w. w .1 .plain refl, (λ w. w .1 .inBrackets refl, tt))
+bodies-misformed = (λ w. w .1 .bare refl, (λ w. w .1 .inBrackets refl, tt))

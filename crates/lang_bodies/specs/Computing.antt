@@ -21,7 +21,7 @@ use Rattle.lang_protein_edits.specs.Parse.{bytesOf, terminalAt, lengthAt, stopA
 use Rattle.lang_headers.specs.Optionals.{isThere, parseOptional}
 use Rattle.lang_headers.specs.Parse.{parseAccession, parseGene, parseHeader}
 use Rattle.lang_headers.specs.Kinds.{firstKind, parseKind}
-use Rattle.lang_bodies.specs.ProteinBodies.{firstExact, parseOpened, parsePlain, parseOrdinary, parseProteinBody}
+use Rattle.lang_bodies.specs.ProteinBodies.{firstExact, parseOpened, parseBare, parseOrdinary, parseProteinBody}
 use Rattle.lang_bodies.specs.WholeText.{parseText}
 
 abbrev pub parser : List ℕ → Option Text
@@ -29,5 +29,5 @@ parser = parseText allLetters alphabets
 
 -- where this unfolds, all that the parser computes with does
 unfoldable pub computing : List ℕ → Option Text
-unfolding run front behind starts same letter digit alphanumeric nucleotide residue rows oneOf isThree isOne residueLen threesLen residuesLen whole parseBoth parseMu parseInterval onDigits parseMark parseOffset parseBased parseUnstarred parseGenomic parseResidual onSome parseIdent parseSubst inserted afterDelNum afterDel afterInv parseDel parseIns parseDup parseInv parseNaEdit bytesOf terminalAt lengthAt stopAt earlierWith earlierAt extEndAt residuesBehind insertedAt wordedAt parseWith parse isThere parseOptional parseAccession parseGene parseHeader firstKind parseKind firstExact parseOpened parsePlain parseOrdinary parseProteinBody parseText
+unfolding run front behind starts same letter digit alphanumeric nucleotide residue rows oneOf isThree isOne residueLen threesLen residuesLen whole parseBoth parseMu parseInterval onDigits parseMark parseOffset parseBased parseUnstarred parseGenomic parseResidual onSome parseIdent parseSubst inserted afterDelNum afterDel afterInv parseDel parseIns parseDup parseInv parseNaEdit bytesOf terminalAt lengthAt stopAt earlierWith earlierAt extEndAt residuesBehind insertedAt wordedAt parseWith parse isThere parseOptional parseAccession parseGene parseHeader firstKind parseKind firstExact parseOpened parseBare parseOrdinary parseProteinBody parseText
 computing = parser

@@ -43,11 +43,11 @@ onEnds f s (some i) = f i (drop (length (printEnds Prot i)) s)
 unfoldable pub parseOpened : List ℕ → Option ProteinBody
 parseOpened s = onEnds insideBrackets s (endsLang Prot .parse s)
 
-unfoldable pub parsePlain : List ℕ → Option ProteinBody
-parsePlain s = onEnds (λ i r. afterLocation (certain i) r) s (endsLang Prot .parse s)
+unfoldable pub parseBare : List ℕ → Option ProteinBody
+parseBare s = onEnds (λ i r. afterLocation (certain i) r) s (endsLang Prot .parse s)
 
 unfoldable pub parseOrdinary : List ℕ → Option ProteinBody
-parseOrdinary s = cond (starts (ascii "(") s) (parseOpened (drop 1 s)) (parsePlain s)
+parseOrdinary s = cond (starts (ascii "(") s) (parseOpened (drop 1 s)) (parseBare s)
 
 -- up to the end of the text
 abbrev pub ended : List ℕ → Option ProteinBody → Option ProteinBody

@@ -32,7 +32,7 @@ use Rattle.lang_locations.specs.Languages.{posLang, endsLang, ends-follows-at, 
 use Rattle.lang_protein_edits.specs.Instance.{proteinEditLang, muProteinEditLang}
 use Rattle.lang_protein_edits.specs.Follow.{follows-nil, follows-close}
 use Rattle.lang_protein_edits.specs.First.{firsts, Head, edit-head, mu-head, head-word}
-use Rattle.lang_bodies.specs.ProteinBodies.{exactBodies, firstExact, afterLocation, closing, insideBrackets, onEnds, parseOpened, parsePlain, parseOrdinary, ended, parseProteinBody}
+use Rattle.lang_bodies.specs.ProteinBodies.{exactBodies, firstExact, afterLocation, closing, insideBrackets, onEnds, parseOpened, parseBare, parseOrdinary, ended, parseProteinBody}
 
 -- ---- complete
 -- an edit may stand behind an interval
@@ -63,7 +63,7 @@ after-complete : (l : Mu (Ends Prot)) (e : Mu ProteinEditTree) → WfMu WfProtei
 after-complete l e w = rw (rw append-nil at (muProteinEditLang .complete e [] w follows-nil))
 
 pub ordinary-complete : (b : ProteinBody) → WfOrdinary b → parseOrdinary (printProteinBody b) ≡ some b
-unfolding parseOrdinary parsePlain parseOpened starts every
+unfolding parseOrdinary parseBare parseOpened starts every
 ordinary-complete met1 w = absurd w
 ordinary-complete bracketedMet1 w = absurd w
 ordinary-complete noProteinUncertain w = absurd w
@@ -96,9 +96,9 @@ after-sound l r t h =
 abbrev OrdinaryFront : List ℕ → ProteinBody → Type 0
 OrdinaryFront s t = Front printProteinBody WfOrdinary s t
 
-plain-sound : (s : List ℕ) (t : ProteinBody) → parsePlain s ≡ some t → OrdinaryFront s t
-unfolding parsePlain
-plain-sound s t h = go (endsLang Prot .parse s) refl h
+bare-sound : (s : List ℕ) (t : ProteinBody) → parseBare s ≡ some t → OrdinaryFront s t
+unfolding parseBare
+bare-sound s t h = go (endsLang Prot .parse s) refl h
   where
     go : (o : Option (Ends Prot)) → endsLang Prot .parse s ≡ o → onEnds (λ i r. afterLocation (certain i) r) s o ≡ some t → OrdinaryFront s t
     go none q k = absurd (none-some k)
@@ -149,7 +149,7 @@ ordinary-sound s t h = go (starts (ascii "(") s) refl
   where
     go : (b : Bool) → starts (ascii "(") s ≡ b → OrdinaryFront s t
     go true e = rw (starts-split (ascii "(") s e) at (opened-sound (drop 1 s) t (rw (e, parseOrdinary) at h))
-    go false e = plain-sound s t (rw (e, parseOrdinary) at h)
+    go false e = bare-sound s t (rw (e, parseOrdinary) at h)
 
 -- ---- whole texts
 well-formed : (b : ProteinBody) → WfOrdinary b → NotMet1 (printProteinBody b) → WfProteinBody b
@@ -189,7 +189,7 @@ not-met1 : (s : List ℕ) → firstExact exactBodies s ≡ none → NotMet1 s
 not-met1 s h =
     let a = exact-none met1 (bracketedMet1 ∷ noProteinUncertain ∷ noProtein ∷ noChangeUncertain ∷ noChange ∷ unknown ∷ []) s h in
     let b = exact-none bracketedMet1 (noProteinUncertain ∷ noProtein ∷ noChangeUncertain ∷ noChange ∷ unknown ∷ []) s (a .1) in
-    record { plain = a .0; inBrackets = b .0 }
+    record { bare = a .0; inBrackets = b .0 }
 
 pub sound-protein : (s : List ℕ) (t : ProteinBody) → parseProteinBody s ≡ some t → WfProteinBody t × (printProteinBody t ≡ s)
 unfolding parseProteinBody
@@ -219,9 +219,9 @@ none-exact [] s n = refl
 none-exact (b ∷ bs) s n = rw (never (same (printProteinBody b) s) (λ e. n .0 (same-true (printProteinBody b) s e))) (none-exact bs s (n .1))
 
 not-exact : (s : List ℕ) (t : ProteinBody) → parseOrdinary s ≡ some t → NotMet1 s → firstExact exactBodies s ≡ none
-unfolding parseOrdinary parsePlain parseOpened parseInterval parseResidual starts residueLen isThree isOne oneOf rows same residue
+unfolding parseOrdinary parseBare parseOpened parseInterval parseResidual starts residueLen isThree isOne oneOf rows same residue
 not-exact s t q n =
-    none-exact exactBodies s (λ e. n .plain (sym e), (λ e. n .inBrackets (sym e), (other noProteinUncertain refl, (other noProtein refl, (other noChangeUncertain refl, (other noChange refl, (other unknown refl, tt)))))))
+    none-exact exactBodies s (λ e. n .bare (sym e), (λ e. n .inBrackets (sym e), (other noProteinUncertain refl, (other noProtein refl, (other noChangeUncertain refl, (other noChange refl, (other unknown refl, tt)))))))
   where
     other : (b : ProteinBody) → parseOrdinary (printProteinBody b) ≡ none → printProteinBody b ≡ s → ⊥
     other b e k = none-some (sym e ∙ ap parseOrdinary k ∙ q)

@@ -35,7 +35,7 @@ use Rattle.lang_canon.specs.TextCanon.{canonText, reads-canon, text-none
 -- ---- what a row says
 -- the value is a location and an edit, or a protein body without location, and this is its shortest text; or the refusal's number and place
 pub data Result : Type 0 where
-  change plain : List ℕ → Result
+  change unlocated : List ℕ → Result
   refusal : (number place : ℕ) → Result
 
 -- a text, and what becomes of it
@@ -68,7 +68,7 @@ pub record Rewritten (location : Bool) (t u : List ℕ) : Type 0 where
 
 abbrev pub Holds : Row → Type 0
 Holds (row t (change u)) = Rewritten true t u
-Holds (row t (plain u)) = Rewritten false t u
+Holds (row t (unlocated u)) = Rewritten false t u
 Holds (row t (refusal number place)) = Reads allLetters t (refused number place)
 
 abbrev pub AllHold : List Row → Type 0
@@ -79,7 +79,7 @@ AllHold (r ∷ rs) = Holds r × AllHold rs
 -- the form of the value, its canonical text
 abbrev written : Bool → Option Text → Result
 written true (some y) = change (print y)
-written false (some y) = plain (print y)
+written false (some y) = unlocated (print y)
 written true none = refusal 5 0
 written false none = refusal 5 0
 
@@ -133,7 +133,7 @@ pairs =
     row (under "p.Met01?") (change (under "p.Met01?")) ∷
     row (under "p.Met1_Met1?") (change (under "p.Met01?")) ∷
     row (under "p.(Met1)(?)") (change (under "p.(Met01?)")) ∷
-    row (under "p.(Met1?)") (plain (under "p.Met1?")) ∷
+    row (under "p.(Met1?)") (unlocated (under "p.Met1?")) ∷
     row (under "p.(Met1)?") (change (under "p.(Met1)?")) ∷
     row (under "p.Gly2extTer-0") (change (under "p.Gly2extTer0")) ∷
     row (under "p.Gly2extMet-0") (change (under "p.Gly2extMet-0")) ∷

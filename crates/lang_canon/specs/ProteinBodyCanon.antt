@@ -166,7 +166,7 @@ met-number = refl
 unbarred : (l : Mu (EndsV Prot)) (e : Mu ProteinEditV) (b : ProteinBody) → WfOrdinary b → meaningProteinBody b ≡ ordinary (both l e) → barred l e ≡ false → NotMet1 (printProteinBody b)
 unfolding same
 unbarred l e b w m h = record {
-  plain = λ q.
+  bare = λ q.
       let i = one-tree b (change (both (certain met1Ends) (certain substUnknown))) w ((met-wf, one-digits), tt) q in
       let n = met-number in
       let x : l ≡ certain (both metOne metOne) = cc in
@@ -277,10 +277,10 @@ first-byte s = getD s 0 0
 
 -- `Met01?` is not barred
 met01-unbarred : (l : Mu (EndsV Prot)) (e : Mu ProteinEditV) → barred l e ≡ true → NotMet1 (printProteinBody (joined l e met01 substUnknown))
-met01-unbarred (certain i) (certain e) h = record { plain = λ q. omega (arith, ap length q); inBrackets = λ q. omega (arith, ap first-byte q) }
+met01-unbarred (certain i) (certain e) h = record { bare = λ q. omega (arith, ap length q); inBrackets = λ q. omega (arith, ap first-byte q) }
 met01-unbarred (certain i) (uncertain e) h = absurd (clash h refl)
 met01-unbarred (uncertain i) (certain e) h = absurd (clash h refl)
-met01-unbarred (uncertain i) (uncertain e) h = record { plain = λ q. omega (arith, ap first-byte q); inBrackets = λ q. omega (arith, ap length q) }
+met01-unbarred (uncertain i) (uncertain e) h = record { bare = λ q. omega (arith, ap first-byte q); inBrackets = λ q. omega (arith, ap length q) }
 
 module _ (l : Mu (EndsV Prot)) (e : Mu ProteinEditV) where
   right-joined : (a : Ends Prot) (b : ProteinEditTree) → WfEnds Prot a → WfProteinEdit b → endsCanon Prot .Fits a → FitsProteinEdit b → meaningEnds Prot a ≡ inner l → meaningProteinEdit b ≡ inner e → NotMet1 (printProteinBody (joined l e a b)) → RightBody (ordinary (both l e)) (joined l e a b)
@@ -364,7 +364,7 @@ met-length (two (residual r ds) (residual s es)) w f m =
 
 -- the other trees of the Met-1 `?` record: not `Met1`
 other-ends : (l : Mu (EndsV Prot)) (e : Mu ProteinEditV) (a : Ends Prot) (b : ProteinEditTree) → barred l e ≡ true → NotMet1 (printProteinBody (joined l e a b)) → printProteinEdit b ≡ ascii "?" → printEnds Prot a ≡ ascii "Met1" → ⊥
-other-ends (certain i) (certain e) a b h n p q = n .plain (rw (p, q))
+other-ends (certain i) (certain e) a b h n p q = n .bare (rw (p, q))
 other-ends (certain i) (uncertain e) a b h n p q = clash h refl
 other-ends (uncertain i) (certain e) a b h n p q = clash h refl
 other-ends (uncertain i) (uncertain e) a b h n p q = n .inBrackets (rw (p, q))

@@ -87,8 +87,8 @@ module _ (s : List ℕ) {n : ℕ} (e : n ≡ accessionLength (parseAccession s))
           go none k = absurd (h k)
           go (some t) k = rw (ep, k, length-append (printAccession t) (printGene (parseGene (drop (length (printAccession t)) s))))
 
-      pub header-plain : g ≡ 0 → Found (record { accession = p; «gene_symbol» = Absent }) n ≡ headerAnswer at (parseHeader s)
-      header-plain z = go (parseGene (drop n s)) found-gene (gene-front (drop n s) .wf) header-is
+      pub header-alone : g ≡ 0 → Found (record { accession = p; «gene_symbol» = Absent }) n ≡ headerAnswer at (parseHeader s)
+      header-alone z = go (parseGene (drop n s)) found-gene (gene-front (drop n s) .wf) header-is
         where
           go : (o : Option (List ℕ)) → g ≡ geneLength o → WfOptional (Some alphanumeric) o → answerWith o ≡ headerAnswer at (parseHeader s) → Found (record { accession = p; «gene_symbol» = Absent }) n ≡ headerAnswer at (parseHeader s)
           go none q w r = rw add-zero at r

@@ -41,7 +41,7 @@ use Rattle.read_mark_offset.specs.declared.OffsetRead.{OffsetRead}
 use Rattle.read_mark_offset.specs.MarkOffsetAnswers.{markOf, offsetAnswer}
 use Rattle.read_position.specs.declared.PositionRead.the-variants.{Nothing, Found}
 use Rattle.read_position.specs.Forms.{isBarred, parseBasedFor}
-use Rattle.any_location.specs.OfTree.{plainOf, basedOf}
+use Rattle.any_location.specs.OfTree.{unmarkedOf, basedOf}
 use Rattle.read_position.specs.PositionAnswers.{positionAnswer}
 
 -- ---- the lengths of a mark and of an offset
@@ -123,7 +123,7 @@ module _ (k : Kind) (at : ℕ) (s : List ℕ) where
 
 -- ---- g, m
 module _ (at : ℕ) (s : List ℕ) (n : Number) (en : n ≡ numberAt Unsigned s) where
-  pub genomic-unknown : n .len ≡ 0 → starts (ascii "?") s ≡ true → (aa : Span) (p : Position) (f : Faults) → aa ≡ span 0 0 → p ≡ plainOf aa (pos 0) true → f ≡ noFault
+  pub genomic-unknown : n .len ≡ 0 → starts (ascii "?") s ≡ true → (aa : Span) (p : Position) (f : Faults) → aa ≡ span 0 0 → p ≡ unmarkedOf aa (pos 0) true → f ≡ noFault
       → Found p 1 f ≡ positionAnswer Genome at (parseGenomic s)
   unfolding parseGenomic answered
   genomic-unknown z q aa p f ea ep ef =
@@ -133,7 +133,7 @@ module _ (at : ℕ) (s : List ℕ) (n : Number) (en : n ≡ numberAt Unsigned s)
   unfolding parseGenomic answered
   genomic-none z q = rw (digits-none (cond (starts (ascii "?") s) (some unknown) none) (λ ds. some (known ds)) s (sym (number-run Unsigned s n en) ∙ z), q)
 
-  pub genomic-some : (n .len ≡ 0 → ⊥) → (aa : Span) (p : Position) (f : Faults) → aa ≡ span 0 0 → p ≡ plainOf aa (toZ w32 (ofZ w32 (n .value))) false → f ≡ ofNumber (n .fits) (n .plain) at
+  pub genomic-some : (n .len ≡ 0 → ⊥) → (aa : Span) (p : Position) (f : Faults) → aa ≡ span 0 0 → p ≡ unmarkedOf aa (toZ w32 (ofZ w32 (n .value))) false → f ≡ ofNumber (n .fits) (n .plain) at
       → Found p (n .len) f ≡ positionAnswer Genome at (parseGenomic s)
   unfolding parseGenomic answered
   genomic-some z aa p f ea ep ef =
@@ -159,7 +159,7 @@ module _ (at : ℕ) (s : List ℕ) (k : ℕ) (ek : k ≡ residueLen s) where
     unfolding parseResidual answered
     residual-bare zk z = rw (← ek, ne-eqb k 0 zk, digits-none none (λ ds. some (residual (take k s) ds)) (drop k s) (sym (number-run Unsigned (drop k s) n behind-residue) ∙ z))
 
-    pub residual-some : (k ≡ 0 → ⊥) → (n .len ≡ 0 → ⊥) → (aa : Span) (p : Position) (f : Faults) → aa ≡ span at k → p ≡ plainOf aa (toZ w32 (ofZ w32 (n .value))) false → f ≡ ofNumber (n .fits) (n .plain) (at + k)
+    pub residual-some : (k ≡ 0 → ⊥) → (n .len ≡ 0 → ⊥) → (aa : Span) (p : Position) (f : Faults) → aa ≡ span at k → p ≡ unmarkedOf aa (toZ w32 (ofZ w32 (n .value))) false → f ≡ ofNumber (n .fits) (n .plain) (at + k)
         → Found p (k + n .len) f ≡ positionAnswer Prot at (parseResidual s)
     unfolding parseResidual answered
     residual-some zk z aa p f ea ep ef =

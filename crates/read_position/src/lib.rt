@@ -98,7 +98,7 @@ fn genome_pos(table: &[u8; 256], s: &[u8], at: usize) -> PositionRead
     if n.len == 0 {
         if words::begins(s, b"?") {
             return PositionRead::Found(
-                any_location::plain(read_scan::span(0, 0), 0, true),
+                any_location::unmarked(read_scan::span(0, 0), 0, true),
                 1,
                 read_scan::no_faults(),
             );
@@ -106,7 +106,7 @@ fn genome_pos(table: &[u8; 256], s: &[u8], at: usize) -> PositionRead
         return PositionRead::Nothing;
     }
     PositionRead::Found(
-        any_location::plain(read_scan::span(0, 0), n.value, false),
+        any_location::unmarked(read_scan::span(0, 0), n.value, false),
         n.len,
         read_scan::faults_of(at, n),
     )
@@ -126,7 +126,7 @@ fn prot_pos(table: &[u8; 256], s: &[u8], at: usize) -> PositionRead
         return PositionRead::Nothing;
     }
     PositionRead::Found(
-        any_location::plain(read_scan::span(at, k), n.value, false),
+        any_location::unmarked(read_scan::span(at, k), n.value, false),
         k + n.len,
         read_scan::faults_of(at + k, n),
     )

@@ -27,7 +27,7 @@ use Rattle.lang_locations.specs.Languages.{endsLang}
 use Rattle.lang_locations.specs.Settled.{settledEnds}
 use Rattle.lang_protein_edits.specs.Instance.{proteinEditLang, muProteinEditLang}
 use Rattle.lang_protein_edits.specs.Settled.{settledProteinEdit}
-use Rattle.lang_bodies.specs.ProteinBodies.{closing, parsePlain, parseOpened, parseOrdinary}
+use Rattle.lang_bodies.specs.ProteinBodies.{closing, parseBare, parseOpened, parseOrdinary}
 use Rattle.lang_bodies.specs.Settled.{settledProteinBody}
 use Rattle.read_scan.specs.declared.Faults.{Faults}
 use Rattle.read_scan.specs.Accounts.{answered}
@@ -91,9 +91,9 @@ module _ (at : ℕ) (s : List ℕ) where
 
 -- ---- the interval, and what stands behind it
 module _ (at : ℕ) (s : List ℕ) where
-  pub plain-none : LR.Nothing ≡ intervalAnswer Prot at (endsLang Prot .parse s) → OR.Nothing ≡ ordinaryAnswer at (parsePlain s)
-  unfolding answered parsePlain
-  plain-none h = rw (interval-unread Prot at s h)
+  pub bare-none : LR.Nothing ≡ intervalAnswer Prot at (endsLang Prot .parse s) → OR.Nothing ≡ ordinaryAnswer at (parseBare s)
+  unfolding answered parseBare
+  bare-none h = rw (interval-unread Prot at s h)
 
   pub opened-none : LR.Nothing ≡ intervalAnswer Prot (at + 1) (endsLang Prot .parse s) → OR.Nothing ≡ ordinaryAnswer at (parseOpened s)
   unfolding answered parseOpened
@@ -104,19 +104,19 @@ module _ (at : ℕ) (s : List ℕ) where
     behind : take (length s - n) (drop n s) ≡ drop (length (printEnds Prot (x .tree))) s
     behind = tail-at s (x .long)
 
-    after-plain : (o : Option (Mu ProteinEditTree)) → afterAnswer l n f (at + n) o ≡ ordinaryAnswer at (mapO (λ e. change (both (certain (x .tree)) e)) o)
+    after-bare : (o : Option (Mu ProteinEditTree)) → afterAnswer l n f (at + n) o ≡ ordinaryAnswer at (mapO (λ e. change (both (certain (x .tree)) e)) o)
     unfolding answered
-    after-plain none = refl
-    after-plain (some e) =
+    after-bare none = refl
+    after-bare (some e) =
         let k : ℕ = length (printEnds Prot (x .tree)) in
         let a : locationFor Prot l ≡ locationAt Prot at (certain (x .tree)) = rw (x .means) (location-for Prot at (certain (x .tree))) in
         let b : n + length (printMu printProteinEdit e) ≡ length (printEnds Prot (x .tree) ++ printMu printProteinEdit e) = rw (x .long) (sym (length-append (printEnds Prot (x .tree)) (printMu printProteinEdit e))) in
         let c : first f (faults (muNumbers proteinEditNumbers (at + n) e) (settledMu settledProteinEdit e)) ≡ faults (endsNumbers Prot at (x .tree) ++ muNumbers proteinEditNumbers (at + k) e) (settledEnds Prot (x .tree) && settledMu settledProteinEdit e) = rw (x .wrong, x .long) (sym (faults-append (endsNumbers Prot at (x .tree)) (muNumbers proteinEditNumbers (at + k) e) (settledEnds Prot (x .tree)) (settledMu settledProteinEdit e))) in
         rw (a, b, c, x .long)
 
-    pub plain-found : (r : OrdinaryRead) → r ≡ afterAnswer l n f (at + n) (muProteinEditLang .parse (take (length s - n) (drop n s))) → r ≡ ordinaryAnswer at (parsePlain s)
-    unfolding parsePlain
-    plain-found r e = e ∙ after-plain (muProteinEditLang .parse (take (length s - n) (drop n s))) ∙ rw (x .parsed, behind)
+    pub bare-found : (r : OrdinaryRead) → r ≡ afterAnswer l n f (at + n) (muProteinEditLang .parse (take (length s - n) (drop n s))) → r ≡ ordinaryAnswer at (parseBare s)
+    unfolding parseBare
+    bare-found r e = e ∙ after-bare (muProteinEditLang .parse (take (length s - n) (drop n s))) ∙ rw (x .parsed, behind)
 
 -- behind an opening bracket at `at`
 module _ (at : ℕ) (s : List ℕ) {l : Location} {n : ℕ} {f : Faults} (x : IntervalTold Prot (at + 1) s l n f) where
@@ -171,6 +171,6 @@ module _ (at : ℕ) (s : List ℕ) where
   unfolding parseOrdinary
   ordinary-opened e r h = h ∙ rw (e, tail-part 1 s)
 
-  pub ordinary-plain : starts (ascii "(") s ≡ false → (r : OrdinaryRead) → r ≡ ordinaryAnswer at (parsePlain s) → r ≡ ordinaryAnswer at (parseOrdinary s)
+  pub ordinary-bare : starts (ascii "(") s ≡ false → (r : OrdinaryRead) → r ≡ ordinaryAnswer at (parseBare s) → r ≡ ordinaryAnswer at (parseOrdinary s)
   unfolding parseOrdinary
-  ordinary-plain e r h = h ∙ rw e
+  ordinary-bare e r h = h ∙ rw e

@@ -12,7 +12,7 @@ ghost use Prim.Native.Nat.{_+_, _≤_};
 ghost use lib.ListN.{length};
 ghost use Rattle.alphabet.specs.Cells.{IsTable};
 ghost use Rattle.lang_protein_edits.specs.Instance.{proteinEditLang, muProteinEditLang};
-ghost use Rattle.lang_bodies.specs.ProteinBodies.{parsePlain, parseOpened, parseOrdinary};
+ghost use Rattle.lang_bodies.specs.ProteinBodies.{parseBare, parseOpened, parseOrdinary};
 ghost use Rattle.read_protein_change.specs.ProteinChangeAnswers.{ordinaryAnswer, afterAnswer, insideAnswer};
 
 pub enum OrdinaryRead {
@@ -98,9 +98,9 @@ fn opened(table: &[u8; 256], s: &[u8], at: usize) -> OrdinaryRead
     inside_brackets(table, l, n, faults, &s[n..], at + 1 + n)
 }
 
-fn plain(table: &[u8; 256], s: &[u8], at: usize) -> OrdinaryRead
+fn bare(table: &[u8; 256], s: &[u8], at: usize) -> OrdinaryRead
     requires { ⌜ (at + length (now s) ≤ 4096) × IsTable (now table) ⌝ }
-    ensures { λ r. ⌜ r ≡ ordinaryAnswer at (parsePlain (now (s .entry))) ⌝ }
+    ensures { λ r. ⌜ r ≡ ordinaryAnswer at (parseBare (now (s .entry))) ⌝ }
 {
     let LocationRead::Found(l, n, faults) = read_location::interval_at(table, Kind::Prot, s, at)
     else {
@@ -117,5 +117,5 @@ pub fn ordinary(table: &[u8; 256], s: &[u8], at: usize) -> OrdinaryRead
     if words::begins(s, b"(") {
         return opened(table, &s[1..], at);
     }
-    plain(table, s, at)
+    bare(table, s, at)
 }

@@ -4,7 +4,7 @@ use native.Mathlib.Omega.{arith}
 use borrow.Author.Needs.{needs}
 use lib.ListN.{length}
 use Rattle.header_lengths.specs.Lengths.{accession-le}
-use Rattle.read_header.proofs.HeaderCases.{gene-le, no-header, header-plain, header-gene}
+use Rattle.read_header.proofs.HeaderCases.{gene-le, no-header, header-alone, header-gene}
 use Rattle.read_header.proofs.header_at.Statement.{statement}
 use Rattle.read_header.proofs.header_at.Tie as tie
 
@@ -42,7 +42,7 @@ returns-2 c =
     let p = c .before .before .before in
     let e = p .before in
     let a = e .before .before .before .args in
-    header-plain (a .s .now) (e .before .accession .ensures) (e .if1 .left) (c .before .gene-symbol .ensures) (a .at) (p .span .ensures) (c .if2 .taken)
+    header-alone (a .s .now) (e .before .accession .ensures) (e .if1 .left) (c .before .gene-symbol .ensures) (a .at) (p .span .ensures) (c .if2 .taken)
 
 add-span : tie.Need-add-span
 add-span c = omega (arith, gene-ends c)

@@ -16,8 +16,8 @@ begins-requires c κs = search needs
 span-requires : tie.Need-span-requires
 span-requires c κs = search needs
 
-plain-requires : tie.Need-plain-requires
-plain-requires c κs = search needs
+unmarked-requires : tie.Need-unmarked-requires
+unmarked-requires c κs = search needs
 
 no-faults-requires : tie.Need-no-faults-requires
 no-faults-requires c κs = search needs
@@ -27,7 +27,7 @@ returns c =
     let b = c .before .before .before .before in
     let i = b .before .before in
     let n = i .before .before in
-    genomic-unknown _ _ _ (n .number-at .ensures) (i .if1 .taken) (sym (b .begins .ensures) ∙ c .before .before .before .if2 .taken) _ _ _ (c .before .before .span .ensures) (c .before .plain .ensures) (c .no-faults .ensures)
+    genomic-unknown _ _ _ (n .number-at .ensures) (i .if1 .taken) (sym (b .begins .ensures) ∙ c .before .before .before .if2 .taken) _ _ _ (c .before .before .span .ensures) (c .before .unmarked .ensures) (c .no-faults .ensures)
 
 returns-2 : tie.Need-returns-2
 returns-2 c =
@@ -37,8 +37,8 @@ returns-2 c =
 span-requires-2 : tie.Need-span-requires-2
 span-requires-2 c κs = search needs
 
-plain-requires-2 : tie.Need-plain-requires-2
-plain-requires-2 c κs = search needs
+unmarked-requires-2 : tie.Need-unmarked-requires-2
+unmarked-requires-2 c κs = search needs
 
 faults-of-requires : tie.Need-faults-of-requires
 faults-of-requires c κs = search needs
@@ -46,7 +46,7 @@ faults-of-requires c κs = search needs
 returns-3 : tie.Need-returns-3
 returns-3 c =
     let i = c .before .before .before .before in
-    genomic-some _ _ _ (i .before .before .number-at .ensures) (i .if1 .left) _ _ _ (c .before .before .before .span2 .ensures) (c .before .plain2 .ensures) (c .faults-of .ensures)
+    genomic-some _ _ _ (i .before .before .number-at .ensures) (i .if1 .left) _ _ _ (c .before .before .before .span2 .ensures) (c .before .unmarked2 .ensures) (c .faults-of .ensures)
 
 pub genome-pos-spec : {M : Type 1} → statement M
 genome-pos-spec =
@@ -56,11 +56,11 @@ genome-pos-spec =
     slice-aggregate-begins
     begins-requires
     span-requires
-    plain-requires
+    unmarked-requires
     no-faults-requires
     returns
     returns-2
     span-requires-2
-    plain-requires-2
+    unmarked-requires-2
     faults-of-requires
     returns-3)

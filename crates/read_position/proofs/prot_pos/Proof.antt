@@ -39,8 +39,8 @@ returns-2 c =
 span-requires : tie.Need-span-requires
 span-requires c κs = omega (arith, residue-le (c .before .before .before .before .before), c .before .before .before .before .before .before .before .pre .0)
 
-plain-requires : tie.Need-plain-requires
-plain-requires c κs = search needs
+unmarked-requires : tie.Need-unmarked-requires
+unmarked-requires c κs = search needs
 
 add-t8 : tie.Need-add-t8
 add-t8 c = omega (arith, number-le (c .before .before .before .before .before .before))
@@ -55,7 +55,7 @@ returns-3 : tie.Need-returns-3
 returns-3 c =
     let n = c .before .before .before .before .before .before .before in
     let i = n .before .before in
-    residual-some _ _ _ (i .before .residue-at .ensures) _ (n .number-at .ensures) (i .if1 .left) (c .before .before .before .before .before .if2 .left) _ _ _ (c .before .before .before .before .span .ensures) (c .before .before .plain .ensures) (c .faults-of .ensures)
+    residual-some _ _ _ (i .before .residue-at .ensures) _ (n .number-at .ensures) (i .if1 .left) (c .before .before .before .before .before .if2 .left) _ _ _ (c .before .before .before .before .span .ensures) (c .before .before .unmarked .ensures) (c .faults-of .ensures)
 
 pub prot-pos-spec : {M : Type 1} → statement M
 prot-pos-spec =
@@ -69,7 +69,7 @@ prot-pos-spec =
     number-at-requires
     returns-2
     span-requires
-    plain-requires
+    unmarked-requires
     add-t8
     add-faults-of
     faults-of-requires

@@ -5,7 +5,7 @@ use Rattle.texts.specs.Slices.{tail-room}
 use mathlib.Core.Bool.{true}
 use Prim.Native.Nat.{_≤_}
 use lib.ListN.{length}
-use Rattle.read_protein_change.proofs.ProteinChangeCases.{ordinary-opened, ordinary-plain}
+use Rattle.read_protein_change.proofs.ProteinChangeCases.{ordinary-opened, ordinary-bare}
 use borrow.Author.Needs.{needs}
 use Rattle.read_protein_change.proofs.ordinary.Statement.{statement}
 use Rattle.read_protein_change.proofs.ordinary.Tie as tie
@@ -38,11 +38,11 @@ opened-requires c κs = (tail-room _ 1 (c .before .before .before .before .befor
 returns : tie.Need-returns
 returns c = ordinary-opened _ _ (bracket (c .before .before)) _ (c .opened .ensures)
 
-plain-requires : tie.Need-plain-requires
-plain-requires c κs = search needs
+bare-requires : tie.Need-bare-requires
+bare-requires c κs = search needs
 
 returns-2 : tie.Need-returns-2
-returns-2 c = ordinary-plain _ _ (sym (c .before .before .begins .ensures) ∙ c .before .if1 .left) _ (c .plain .ensures)
+returns-2 c = ordinary-bare _ _ (sym (c .before .before .begins .ensures) ∙ c .before .if1 .left) _ (c .bare .ensures)
 
 pub ordinary-spec : {M : Type 1} → statement M
 ordinary-spec =
@@ -55,5 +55,5 @@ ordinary-spec =
     part-opened-end
     opened-requires
     returns
-    plain-requires
+    bare-requires
     returns-2)
