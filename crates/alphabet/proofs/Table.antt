@@ -1,14 +1,17 @@
 -- The rule of the class table: one test that is computed over all entries, and one law that turns it into the rule at each entry.
-use Prim.Native.Nat.{ℕ, zero, suc, _+_, _<_}
+use Prim.Native.Nat.{ℕ, zero, suc, _+_, _%_, _<_}
 use mathlib.Core.Path.{_≡_, refl}
 use mathlib.Core.Bool.{Bool, true, false, _&&_, Bool·beq}
 use mathlib.Core.List.{List, [], _∷_}
 use native.Mathlib.Omega.{arith}
 use native.Mathlib.Nat.{add-zero, zero-add, add-suc, suc-add}
+use lib.Dec.{eqb}
 use lib.ListN.{length, getD}
+use borrow.Author.Tests.{eqb-true}
 use Rattle.texts.specs.Tests.{and-true, clash}
 use Rattle.alphabet.specs.Letters.{digit, letter, alphanumeric, nucleotide, residue}
 use Rattle.alphabet.specs.Classes.{member}
+use Rattle.alphabet.specs.Flags.{flag}
 use Rattle.alphabet.specs.Cells.{within, lowest, highest, numbered, Cell, IsTable, classTable}
 use Rattle.alphabet.specs.declared.Class.{Class}
 use Rattle.alphabet.specs.declared.Class.the-variants.{Digit, Letter, Alphanumeric, Nucleotide, Residue}
@@ -25,8 +28,12 @@ every-class p e class =
     elim class [ Digit ↦ d .0 | Letter ↦ l .0 | Alphanumeric ↦ a .0 | Nucleotide ↦ n .0 | Residue ↦ n .1 ]
 
 -- each class has the number k exactly where it has the byte b
+abbrev inClasses : ℕ → ℕ → Bool
+inClasses b k = everyClass (λ class. Bool·beq (numbered class k) (member class b))
+
+-- and it is odd for a nucleotide letter
 abbrev right : ℕ → ℕ → Bool
-right b k = everyClass (λ class. Bool·beq (numbered class k) (member class b))
+right b k = inClasses b k && eqb (k % 2) (flag (member Nucleotide b))
 
 -- the numbers of the bytes from b on are right
 abbrev tested : ℕ → List ℕ → Bool
@@ -46,14 +53,15 @@ right-at b (k ∷ ks) e (suc i) h = rw (add-suc, ← suc-add) (right-at (suc b) 
 
 entry : (ks : List ℕ) → tested 0 ks ≡ true → (b : ℕ) → b < length ks → Cell b (getD ks b 0)
 entry ks e b h =
+    let k = getD ks b 0 in
+    let r = and-true (inClasses b k) (eqb (k % 2) (flag (member Nucleotide b))) (rw zero-add at (right-at 0 ks e b h)) in
     record {
-      rule = λ class.
-          equal (numbered class (getD ks b 0)) (member class b)
-          (every-class (λ (class : Class). Bool·beq (numbered class (getD ks b 0)) (member class b)) (rw zero-add at (right-at 0 ks e b h)) class);
+      rule = λ class. equal (numbered class k) (member class b) (every-class (λ (class : Class). Bool·beq (numbered class k) (member class b)) (r .0) class);
+      odd = eqb-true (k % 2) (flag (member Nucleotide b)) (r .1);
     }
 
 table-rule : (b : ℕ) → b < 256 → Cell b (getD classTable b 0)
-unfolding digit letter alphanumeric nucleotide residue member within lowest highest numbered
+unfolding digit letter alphanumeric nucleotide residue member within lowest highest numbered flag
 table-rule = entry classTable refl
 
 pub table : IsTable classTable

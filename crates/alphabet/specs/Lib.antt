@@ -1,5 +1,5 @@
 pub mod Letters
 pub mod Classes
+pub mod Flags
 pub mod Cells
 pub mod Apart
-pub mod Flags

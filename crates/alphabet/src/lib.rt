@@ -1,6 +1,6 @@
 // The alphabets: which class a byte is of, and how many bytes of a class stand at the front of a text.
 ghost use mathlib.Core.Path.{_≡_};
-ghost use Prim.Native.Nat.{_+_, _≤_};
+ghost use Prim.Native.Nat.{_+_, _%_, _≤_};
 ghost use lib.ListN.{length, drop};
 ghost use Rattle.texts.specs.Runs.{run};
 ghost use Rattle.alphabet.specs.Classes.{member};
@@ -8,9 +8,9 @@ ghost use Rattle.alphabet.specs.Flags.{flag};
 ghost use Rattle.alphabet.specs.declared.Class.the-variants.{Nucleotide};
 ghost use Rattle.alphabet.specs.Cells.{IsTable, classTable, within, lowest as lowestOf, highest as highestOf};
 
-// 0 no letter, digit or `*`; 1 `*`; 2 a residue letter that is no nucleotide letter;
-// 3 U; 4 another upper-case nucleotide letter but T; 5 T; 6 t; 7 another lower-case nucleotide letter but u; 8 u;
-// 9 another letter; 10 a digit. So the numbers of each class are a range.
+// 0 no letter, digit or `*`; 2 `*`; 4 a residue letter that is no nucleotide letter;
+// 5 U; 7 another upper-case nucleotide letter but T; 9 T; 11 t; 13 another lower-case nucleotide letter but u; 15 u;
+// 16 another letter; 18 a digit. So the numbers of each class are a range, and those of nucleotide letters are the odd ones.
 const CLASS: [u8; 256] = [
     0,
     0,
@@ -54,87 +54,87 @@ const CLASS: [u8; 256] = [
     0,
     0,
     0,
-    1,
-    0,
-    0,
-    0,
-    0,
-    0,
-    10,
-    10,
-    10,
-    10,
-    10,
-    10,
-    10,
-    10,
-    10,
-    10,
-    0,
-    0,
-    0,
-    0,
-    0,
-    0,
-    0,
-    4,
-    4,
-    4,
-    4,
     2,
-    2,
+    0,
+    0,
+    0,
+    0,
+    0,
+    18,
+    18,
+    18,
+    18,
+    18,
+    18,
+    18,
+    18,
+    18,
+    18,
+    0,
+    0,
+    0,
+    0,
+    0,
+    0,
+    0,
+    7,
+    7,
+    7,
+    7,
     4,
     4,
-    2,
+    7,
+    7,
+    4,
+    16,
+    7,
+    4,
+    7,
+    7,
+    16,
+    4,
+    4,
+    7,
+    7,
     9,
-    4,
-    2,
-    4,
-    4,
-    9,
-    2,
-    2,
-    4,
-    4,
     5,
-    3,
+    7,
+    7,
     4,
+    7,
     4,
-    2,
-    4,
-    2,
     0,
     0,
     0,
     0,
     0,
     0,
-    7,
-    7,
-    7,
-    7,
-    9,
-    9,
-    7,
-    7,
-    9,
-    9,
-    7,
-    9,
-    7,
-    7,
-    9,
-    9,
-    9,
-    7,
-    7,
-    6,
-    8,
-    7,
-    7,
-    9,
-    7,
-    9,
+    13,
+    13,
+    13,
+    13,
+    16,
+    16,
+    13,
+    13,
+    16,
+    16,
+    13,
+    16,
+    13,
+    13,
+    16,
+    16,
+    16,
+    13,
+    13,
+    11,
+    15,
+    13,
+    13,
+    16,
+    13,
+    16,
     0,
     0,
     0,
@@ -282,11 +282,11 @@ fn lowest(class: Class) -> u8
     ensures { λ r. ⌜ r ≡ lowestOf class ⌝ }
 {
     match class {
-        Class::Digit => 10,
-        Class::Letter => 2,
-        Class::Alphanumeric => 2,
-        Class::Nucleotide => 3,
-        Class::Residue => 1,
+        Class::Digit => 18,
+        Class::Letter => 4,
+        Class::Alphanumeric => 4,
+        Class::Nucleotide => 5,
+        Class::Residue => 2,
     }
 }
 
@@ -294,11 +294,11 @@ fn highest(class: Class) -> u8
     ensures { λ r. ⌜ r ≡ highestOf class ⌝ }
 {
     match class {
-        Class::Digit => 10,
-        Class::Letter => 9,
-        Class::Alphanumeric => 10,
-        Class::Nucleotide => 8,
-        Class::Residue => 5,
+        Class::Digit => 18,
+        Class::Letter => 16,
+        Class::Alphanumeric => 18,
+        Class::Nucleotide => 15,
+        Class::Residue => 9,
     }
 }
 
@@ -339,12 +339,12 @@ pub fn run_of(table: &[u8; 256], class: Class, s: &[u8]) -> usize
     i
 }
 
-// 1 for a nucleotide letter, else 0: such numbers are joined without a jump.
-fn nucleotide_flag(table: &[u8; 256], b: u8) -> u8
+// The number of a byte. That of several joined by `&` is odd where each is: one test for all of them, without a jump.
+fn number_of(table: &[u8; 256], b: u8) -> u8
     requires { ⌜ IsTable (now table) ⌝ }
-    ensures { λ r. ⌜ r ≡ flag (member Nucleotide b) ⌝ }
+    ensures { λ r. ⌜ r % 2 ≡ flag (member Nucleotide b) ⌝ }
 {
-    is_in(table, Class::Nucleotide, b) as u8
+    table[b as usize]
 }
 
 // Four nucleotide letters a turn, up to the first four bytes that are not all such letters.
@@ -354,11 +354,11 @@ fn fours(table: &[u8; 256], s: &[u8]) -> usize
 {
     let mut counted: usize = 0;
     while 4 <= s.len() - counted {
-        let letters = nucleotide_flag(table, s[counted])
-            & nucleotide_flag(table, s[counted + 1])
-            & nucleotide_flag(table, s[counted + 2])
-            & nucleotide_flag(table, s[counted + 3]);
-        if letters == 0 {
+        let joined = number_of(table, s[counted])
+            & number_of(table, s[counted + 1])
+            & number_of(table, s[counted + 2])
+            & number_of(table, s[counted + 3]);
+        if joined % 2 == 0 {
             return counted;
         }
         counted += 4;

@@ -22,38 +22,38 @@ loop-holds c = search needs
 sub-loop : tie.Need-sub-loop Inv-loop μ-loop
 sub-loop c = search needs
 
-shared-slice-read-nucleotide-flag : tie.Need-shared-slice-read-nucleotide-flag Inv-loop μ-loop
-shared-slice-read-nucleotide-flag c = search needs
+shared-slice-read-number-of : tie.Need-shared-slice-read-number-of Inv-loop μ-loop
+shared-slice-read-number-of c = search needs
 
-nucleotide-flag-requires : tie.Need-nucleotide-flag-requires Inv-loop μ-loop
-nucleotide-flag-requires c κs = search needs
+number-of-requires : tie.Need-number-of-requires Inv-loop μ-loop
+number-of-requires c κs = search needs
 
-add-nucleotide-flag : tie.Need-add-nucleotide-flag Inv-loop μ-loop
-add-nucleotide-flag c = search needs
+add-number-of : tie.Need-add-number-of Inv-loop μ-loop
+add-number-of c = search needs
 
-shared-slice-read-nucleotide-flag-2 : tie.Need-shared-slice-read-nucleotide-flag-2 Inv-loop μ-loop
-shared-slice-read-nucleotide-flag-2 c = search needs
+shared-slice-read-number-of-2 : tie.Need-shared-slice-read-number-of-2 Inv-loop μ-loop
+shared-slice-read-number-of-2 c = search needs
 
-nucleotide-flag-requires-2 : tie.Need-nucleotide-flag-requires-2 Inv-loop μ-loop
-nucleotide-flag-requires-2 c κs = search needs
+number-of-requires-2 : tie.Need-number-of-requires-2 Inv-loop μ-loop
+number-of-requires-2 c κs = search needs
 
-add-nucleotide-flag-2 : tie.Need-add-nucleotide-flag-2 Inv-loop μ-loop
-add-nucleotide-flag-2 c = search needs
+add-number-of-2 : tie.Need-add-number-of-2 Inv-loop μ-loop
+add-number-of-2 c = search needs
 
-shared-slice-read-nucleotide-flag-3 : tie.Need-shared-slice-read-nucleotide-flag-3 Inv-loop μ-loop
-shared-slice-read-nucleotide-flag-3 c = search needs
+shared-slice-read-number-of-3 : tie.Need-shared-slice-read-number-of-3 Inv-loop μ-loop
+shared-slice-read-number-of-3 c = search needs
 
-nucleotide-flag-requires-3 : tie.Need-nucleotide-flag-requires-3 Inv-loop μ-loop
-nucleotide-flag-requires-3 c κs = search needs
+number-of-requires-3 : tie.Need-number-of-requires-3 Inv-loop μ-loop
+number-of-requires-3 c κs = search needs
 
-add-nucleotide-flag-3 : tie.Need-add-nucleotide-flag-3 Inv-loop μ-loop
-add-nucleotide-flag-3 c = search needs
+add-number-of-3 : tie.Need-add-number-of-3 Inv-loop μ-loop
+add-number-of-3 c = search needs
 
-shared-slice-read-nucleotide-flag-4 : tie.Need-shared-slice-read-nucleotide-flag-4 Inv-loop μ-loop
-shared-slice-read-nucleotide-flag-4 c = search needs
+shared-slice-read-number-of-4 : tie.Need-shared-slice-read-number-of-4 Inv-loop μ-loop
+shared-slice-read-number-of-4 c = search needs
 
-nucleotide-flag-requires-4 : tie.Need-nucleotide-flag-requires-4 Inv-loop μ-loop
-nucleotide-flag-requires-4 c κs = search needs
+number-of-requires-4 : tie.Need-number-of-requires-4 Inv-loop μ-loop
+number-of-requires-4 c κs = search needs
 
 returns : tie.Need-returns Inv-loop μ-loop
 returns c = search needs
@@ -72,7 +72,7 @@ loop-again c =
     let first = second .before .before in
     let l = first .before .before .before in
     let s = l .before .before .args .s .now in
-    (search needs, l .loop .inv .1 ∙ run-four-more (member Nucleotide) s (l .loop .counted) (search needs) (four-flags _ _ _ _ (first .nucleotide-flag .ensures) (second .nucleotide-flag2 .ensures) (third .nucleotide-flag3 .ensures) (fourth .nucleotide-flag4 .ensures) (c .if1 .left)))
+    (search needs, l .loop .inv .1 ∙ run-four-more (member Nucleotide) s (l .loop .counted) (search needs) (four-flags _ _ _ _ _ _ _ _ (first .number-of .ensures) (second .number-of2 .ensures) (third .number-of3 .ensures) (fourth .number-of4 .ensures) (c .if1 .left)))
 
 returns-2 : tie.Need-returns-2 Inv-loop μ-loop
 returns-2 c = search needs
@@ -85,17 +85,17 @@ fours-spec =
     μ-loop
     loop-holds
     sub-loop
-    shared-slice-read-nucleotide-flag
-    nucleotide-flag-requires
-    add-nucleotide-flag
-    shared-slice-read-nucleotide-flag-2
-    nucleotide-flag-requires-2
-    add-nucleotide-flag-2
-    shared-slice-read-nucleotide-flag-3
-    nucleotide-flag-requires-3
-    add-nucleotide-flag-3
-    shared-slice-read-nucleotide-flag-4
-    nucleotide-flag-requires-4
+    shared-slice-read-number-of
+    number-of-requires
+    add-number-of
+    shared-slice-read-number-of-2
+    number-of-requires-2
+    add-number-of-2
+    shared-slice-read-number-of-3
+    number-of-requires-3
+    add-number-of-3
+    shared-slice-read-number-of-4
+    number-of-requires-4
     returns
     add-counted
     loop-less
