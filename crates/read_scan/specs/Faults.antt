@@ -6,7 +6,7 @@ use mathlib.Core.Option.{Option, none as nothing, some}
 use mathlib.Core.Bool.{Bool, true, false, cond, _&&_}
 use native.Mathlib.Omega.{arith}
 use lib.Dec.{eqb, ltb}
-use borrow.Author.Tests.{ne-eqb, ltb-true, ltb-false}
+use borrow.Author.Tests.{ne-eqb, ltb-true, ltb-false, lt-ltb}
 use Rattle.texts.specs.Tests.{none-some, and-false}
 use Rattle.numerals.specs.declared.Sign.{Sign}
 use Rattle.numerals.specs.Digits.{val}
@@ -102,6 +102,12 @@ faults-one k sign ds =
     let p = foundUnless (isPlain sign ds) (unplainAt k) in
     let b = foundUnless (fits sign (val ds)) (unfitAt k) in
     rw (append-nil (p ++ b)) (ap coded (code-append p b true true) ∙ rw (← unless-code (isPlain sign ds) (unplainAt k), ← unless-code (fits sign (val ds)) (unfitAt k)) refl)
+
+-- one that is plain
+pub plain-faults : (b : Bool) (k : ℕ) → unless b doesNotFit k ≡ ofNumber b true k
+unfolding merged
+plain-faults true k = refl
+plain-faults false k = rw (lt-ltb 0 (rankIn (k * 16 + doesNotFit)) (omega arith))
 
 pub settled-if : (t : Bool) (ns : List Numeral) (a : Bool) → settledIf t (faults ns a) ≡ faults ns (t && a)
 unfolding faults
