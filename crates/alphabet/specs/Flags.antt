@@ -1,5 +1,5 @@
 -- Flags, 1 where a test passes and else 0, as the lowest bits of numbers; and four of them joined by the machine's `&`.
-use Prim.Native.Nat.{ℕ, _+_, _*_, _/_, _%_, min}
+use Prim.Native.Nat.{ℕ, _%_, min}
 use mathlib.Core.Path.{_≡_, refl, _∙_}
 use mathlib.Core.Bool.{Bool, true, false, _&&_}
 use native.Mathlib.Omega.{arith}

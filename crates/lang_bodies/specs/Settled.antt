@@ -1,4 +1,4 @@
--- Which texts are written as they stand where their numbers are plainly spelled. `canon: Settled` shows it; others may be so too.
+-- Which texts are written as they stand where their numbers are plainly spelled. `lang_canon: Settled` shows it; others may be so too.
 use Prim.Native.Nat.{ℕ, _≤_}
 use mathlib.Core.Path.{_≡_}
 use mathlib.Core.List.{List}

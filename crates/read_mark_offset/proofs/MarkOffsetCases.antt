@@ -1,5 +1,6 @@
 -- The clauses of the parsers of a mark and an offset, by the tests that the program makes, and the answer for each.
-use Prim.Native.Nat.{ℕ, suc, _+_, _-_}
+use Prim.Native.Nat.{ℕ, suc, _+_, _-_, _≤_}
+use Prim.Native.Char.{code}
 use mathlib.Core.Path.{_≡_, refl, sym, _∙_}
 use mathlib.Core.List.{List, [], _∷_}
 use mathlib.Core.Bool.{Bool, true, false, cond}
@@ -8,7 +9,7 @@ use mir.Syntax.{w32}
 use mir.Val.{toZ, ofZ}
 use lib.Dec.{eqb}
 use lib.ListN.{length, take, drop}
-use borrow.Author.Tests.{eq-eqb, ne-eqb}
+use borrow.Author.Tests.{eq-eqb, ne-eqb, ltb-true}
 use Rattle.texts.specs.Ascii.{ascii}
 use Rattle.texts.specs.Runs.{run, front, front-length}
 use Rattle.texts.specs.Slices.{tail-part}
@@ -27,7 +28,19 @@ use Rattle.read_scan.specs.Reading.{number-run, number-value, number-faults}
 use Rattle.read_scan.specs.Faults.{faults, none as noFault, ofNumber, faults-nil}
 use Rattle.lang_locations.specs.Parse.{onDigits, parseMark, parseOffset}
 use Rattle.read_mark_offset.specs.declared.OffsetRead.{OffsetRead}
-use Rattle.read_mark_offset.specs.MarkOffsetAnswers.{markOf, offsetAnswer, offsetBehind}
+use Rattle.read_mark_offset.specs.MarkOffsetAnswers.{aboveSigns, markOf, offsetAnswer, offsetBehind}
+
+-- ---- the first byte
+pub none-below : (s : List ℕ) → length s ≡ 0 → false ≡ aboveSigns s
+unfolding aboveSigns
+none-below [] e = refl
+none-below (b ∷ s) e = absurd (omega arith)
+
+-- none of the bytes up to `-` stands there
+no-sign : (c : ℕ) (s : List ℕ) → c ≤ code "-" → aboveSigns s ≡ true → starts (c ∷ []) s ≡ false
+unfolding aboveSigns starts
+no-sign c [] h e = refl
+no-sign c (b ∷ s) h e = rw (ne-eqb c b (λ z. omega (arith, ltb-true (code "-") b e)))
 
 -- ---- marks
 module _ (s : List ℕ) where
@@ -46,6 +59,9 @@ module _ (s : List ℕ) where
   pub mark-bare : starts (ascii "+") s ≡ false → starts (ascii "-") s ≡ false → starts (ascii "*") s ≡ false → markOf bare ≡ markOf (parseMark s)
   unfolding parseMark
   mark-bare p m e = rw (p, m, e)
+
+  pub mark-above : aboveSigns s ≡ true → markOf bare ≡ markOf (parseMark s)
+  mark-above h = mark-bare (no-sign (code "+") s (omega arith) h) (no-sign (code "-") s (omega arith) h) (no-sign (code "*") s (omega arith) h)
 
 -- ---- offsets
 pub offset-none : (at : ℕ) (f : Faults) → f ≡ noFault → _≡_ {A = OffsetRead} (record { offset = Absent; len = 0; faults = f }) (offsetAnswer at absent)
@@ -88,3 +104,6 @@ module _ (at : ℕ) (s : List ℕ) where
   pub offset-missing : starts (ascii "+") s ≡ false → starts (ascii "-") s ≡ false → offsetAnswer at absent ≡ offsetAnswer at (parseOffset s)
   unfolding parseOffset
   offset-missing p m = rw (p, m)
+
+  pub offset-above : aboveSigns s ≡ true → offsetAnswer at absent ≡ offsetAnswer at (parseOffset s)
+  offset-above h = offset-missing (no-sign (code "+") s (omega arith) h) (no-sign (code "-") s (omega arith) h)

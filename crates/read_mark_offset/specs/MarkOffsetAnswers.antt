@@ -1,9 +1,10 @@
 -- What the routines give for the mark and the offset found: what they say, their lengths, and the faults of the offset.
 use Prim.Native.Nat.{ℕ, _+_}
+use Prim.Native.Char.{code}
 use mathlib.Core.List.{List, _∷_, []}
-use mathlib.Core.Bool.{true, cond}
-use lib.Dec.{eqb}
-use lib.ListN.{length}
+use mathlib.Core.Bool.{Bool, true, cond}
+use lib.Dec.{eqb, ltb}
+use lib.ListN.{length, getD}
 use Rattle.texts.specs.Runs.{run, front}
 use Rattle.alphabet.specs.Letters.{digit}
 use Rattle.numerals.specs.declared.Sign.{Sign}
@@ -14,6 +15,10 @@ use Rattle.grammar.specs.Numbers.{Numeral.numeral, offsetNumbers}
 use Rattle.read_scan.specs.Faults.{faults}
 use Rattle.read_mark_offset.specs.declared.MarkRead.{MarkRead}
 use Rattle.read_mark_offset.specs.declared.OffsetRead.{OffsetRead}
+
+-- the first byte lies above `*`, `+` and `-`
+unfoldable pub aboveSigns : List ℕ → Bool
+aboveSigns s = ltb (code "-") (getD s 0 0)
 
 abbrev pub markOf : Mark → MarkRead
 markOf m = record { len = length (printMark m); sign = signOf m; «cds_from» = fromOf m }

@@ -7,9 +7,9 @@ ghost use mathlib.Core.Path.{_≡_};
 ghost use Prim.Native.Nat.{_+_, _≤_};
 ghost use lib.ListN.{length};
 ghost use Rattle.alphabet.specs.Cells.{IsTable};
-ghost use Rattle.grammar.specs.Positions.{OffsetTree.absent};
+ghost use Rattle.grammar.specs.Positions.{Mark.bare, OffsetTree.absent};
 ghost use Rattle.lang_locations.specs.Parse.{parseMark, parseOffset};
-ghost use Rattle.read_mark_offset.specs.MarkOffsetAnswers.{markOf, offsetAnswer, offsetBehind};
+ghost use Rattle.read_mark_offset.specs.MarkOffsetAnswers.{aboveSigns, markOf, offsetAnswer, offsetBehind};
 
 // What stands before the digits of a base: how long it is, and what it says.
 pub struct MarkRead {
@@ -25,9 +25,32 @@ pub struct OffsetRead {
     pub faults: Faults,
 }
 
+// Whether the first byte lies above `*`, `+` and `-`. Most are digits or letters, and one test tells that they are none of these.
+fn above_signs(s: &[u8]) -> bool
+    ensures { λ r. ⌜ r ≡ aboveSigns (now (s .entry)) ⌝ }
+{
+    if s.len() == 0 {
+        return false;
+    }
+    b'-' < s[0]
+}
+
+fn no_mark() -> MarkRead
+    ensures { λ r. ⌜ r ≡ markOf bare ⌝ }
+{
+    MarkRead {
+        len: 0,
+        sign: Sign::Unsigned,
+        cds_from: CdsFrom::Start,
+    }
+}
+
 pub fn mark_at(s: &[u8]) -> MarkRead
     ensures { λ r. ⌜ r ≡ markOf (parseMark (now (s .entry))) ⌝ }
 {
+    if above_signs(s) {
+        return no_mark();
+    }
     if words::begins(s, b"+") {
         return MarkRead {
             len: 1,
@@ -49,11 +72,7 @@ pub fn mark_at(s: &[u8]) -> MarkRead
             cds_from: CdsFrom::End,
         };
     }
-    MarkRead {
-        len: 0,
-        sign: Sign::Unsigned,
-        cds_from: CdsFrom::Start,
-    }
+    no_mark()
 }
 
 fn no_offset(at: usize) -> OffsetRead
@@ -86,6 +105,9 @@ pub fn offset_at(table: &[u8; 256], s: &[u8], at: usize) -> OffsetRead
     requires { ⌜ (at + length (now s) ≤ 4096) × IsTable (now table) ⌝ }
     ensures { λ r. ⌜ r ≡ offsetAnswer at (parseOffset (now (s .entry))) ⌝ }
 {
+    if above_signs(s) {
+        return no_offset(at);
+    }
     if words::begins(s, b"+") {
         return offset_behind(table, &s[1..], at, Sign::Unsigned);
     }

@@ -1,9 +1,9 @@
 -- What reading a location and an edit of p one after the other answers.
 use Prim.Native.Nat.{ℕ, _+_, _-_, _≤_}
 use mathlib.Core.Path.{_≡_, refl, sym, ap, _∙_}
-use mathlib.Core.List.{List, [], _∷_, _++_}
+use mathlib.Core.List.{List, [], _++_}
 use mathlib.Core.Option.{Option, none, some}
-use mathlib.Core.Bool.{Bool, true, false, not, cond, _&&_}
+use mathlib.Core.Bool.{Bool, true, false, cond, _&&_}
 use native.Mathlib.Omega.{arith}
 use lib.ListN.{length, take, drop, length-append, length-drop}
 use Rattle.texts.specs.Ascii.{ascii}
@@ -13,13 +13,12 @@ use Rattle.record.specs.declared.Kind.the-variants.{Prot}
 use Rattle.record.specs.declared.MuProteinEdit.{MuProteinEdit}
 use Rattle.record.specs.declared.MuProteinEdit.the-variants.{Uncertain}
 use Rattle.record.specs.declared.ProteinEdit as Record
-use Rattle.record.specs.declared.ProtLocEdit.{ProtLocEdit}
 use Rattle.record.specs.declared.ProtLocEdit.the-variants.{Ordinary}
 use Rattle.grammar.specs.Shapes.{Mu, Mu.certain, Mu.uncertain, Both.both, printMu}
 use Rattle.grammar.specs.ProteinEdits.{ProteinEditTree, printProteinEdit}
-use Rattle.grammar.specs.Bodies.{printEnds, ProteinBody, ProteinBody.change, ProteinBody.bracketed, printProteinBody}
-use Rattle.grammar.specs.Records.{intervalAt, locationAt, uncertainly, proteinEditAt, proteinBodyAt}
-use Rattle.grammar.specs.Numbers.{muNumbers, endsNumbers, proteinEditNumbers, proteinBodyNumbers}
+use Rattle.grammar.specs.Bodies.{printEnds, ProteinBody.change, ProteinBody.bracketed, printProteinBody}
+use Rattle.grammar.specs.Records.{intervalAt, locationAt, uncertainly, proteinEditAt}
+use Rattle.grammar.specs.Numbers.{muNumbers, endsNumbers, proteinEditNumbers}
 use Rattle.lang.specs.Lang.{within}
 use Rattle.lang.specs.Canon.{mapO}
 use Rattle.lang.specs.MuCanon.{settledMu}
@@ -28,7 +27,6 @@ use Rattle.lang_locations.specs.Settled.{settledEnds}
 use Rattle.lang_protein_edits.specs.Instance.{proteinEditLang, muProteinEditLang}
 use Rattle.lang_protein_edits.specs.Settled.{settledProteinEdit}
 use Rattle.lang_bodies.specs.ProteinBodies.{closing, parseBare, parseOpened, parseOrdinary}
-use Rattle.lang_bodies.specs.Settled.{settledProteinBody}
 use Rattle.read_scan.specs.declared.Faults.{Faults}
 use Rattle.read_scan.specs.Accounts.{answered}
 use Rattle.read_scan.specs.Faults.{faults, first, settledIf, faults-append, settled-if}

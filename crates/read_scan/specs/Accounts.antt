@@ -45,7 +45,7 @@ module _ {Tree Value Answer : Type 0} {nothing : Answer} {found : Value → ℕ 
   unfolding answered
   unread e = by-answer (answered nothing found A k) (parse s) e (λ q z. q) (λ t q z. absurd (cases .apart (sym z)))
 
--- ---- the places that are handed on: where no number does not fit, the leftmost that is not plain
+-- ---- the places that are handed on: of the leftmost number that does not fit; where all fit, of the leftmost that is not plain
 module _ {Tree Value : Type 0} {A : Account Tree Value} {k : ℕ} {parse : List ℕ → Option Tree} {s : List ℕ} {v : Value} {n : ℕ} {f : Faults} (t : Told A k parse s v n f) where
   abbrev numbers : List Numeral
   numbers = A .numbersAt k (t .tree)

@@ -123,7 +123,7 @@ pub settled-none : (t : Bool) → settledIf t none ≡ faults [] t
 settled-none t = ap (settledIf t) (sym faults-nil) ∙ settled-only t []
 
 -- ---- what is found of numbers
--- of a rank, where in each number that is found which fails a test
+-- the leftmost of a rank, where a number has a finding of it exactly when it fails a test
 leftmost-found : (r : ℕ) (test : Sign → List ℕ → Bool) → ((k : ℕ) (sign : Sign) (ds : List ℕ) (fs : List Finding) → leftmostOf r (foundIn (numeral k sign ds) ++ fs) ≡ cond (test sign ds) (leftmostOf r fs) (some k))
     → (ns : List Numeral) → leftmostOf r (findings ns) ≡ leftmostFailing test ns
 leftmost-found r test step [] = refl

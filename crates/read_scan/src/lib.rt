@@ -99,7 +99,7 @@ pub fn leftmost(a: Faults, b: Faults) -> Faults
     a
 }
 
-// What a test tells that a number at `at` passes or not.
+// Of a number at `at`: nothing where it has passed a test, else that test's rank.
 fn fault_unless(passed: bool, rank: usize, at: usize) -> Faults
     requires { ⌜ (rank < 16) × (at ≤ 4096) ⌝ }
     ensures { λ r. ⌜ r ≡ unless passed rank at ⌝ }
