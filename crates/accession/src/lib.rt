@@ -1,4 +1,6 @@
 // The accession of a record, in the caller's source.
+#![tactic(auto)]
+
 ghost use Rattle.accession.specs.Accessor.{IsAccession};
 
 use record::HgvsVariant;

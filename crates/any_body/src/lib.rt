@@ -1,4 +1,6 @@
 // The body of a record, as a body of any nucleotide kind or of p.
+#![tactic(auto)]
+
 ghost use Rattle.std.specs.Prelude.{◌≡◌};
 ghost use Rattle.any_body.specs.AnyBodies.{any_body};
 
@@ -6,7 +8,7 @@ use any_location::Location;
 use record::{Body, Kind, MuNaEdit, ProtLocEdit};
 
 // A body of any nucleotide kind, or of p.
-#[derive(Drop)]
+#[derive(Clone, Copy)]
 pub enum AnyBody {
     Nucleotide(Kind, Location, MuNaEdit),
     Protein(ProtLocEdit),

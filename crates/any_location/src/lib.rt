@@ -1,11 +1,13 @@
 // Positions and locations of any kind: what the readers make and the writers take.
+#![tactic(auto)]
+
 ghost use Rattle.std.specs.Prelude.{◌≡◌};
 ghost use Rattle.any_location.specs.OfTree.{unmarked_of, uncertain_of};
 
 use record::{CdsFrom, Offset, Span};
 
 // A position of any kind. Where a kind has no residue, none unknown, no anchor or no offset, 0..0, false, the start or no offset stands.
-#[derive(Drop)]
+#[derive(Clone, Copy)]
 pub struct Position {
     pub aa: Span,
     // the base, or the residue's number
@@ -15,7 +17,7 @@ pub struct Position {
     pub offset: Offset,
 }
 
-#[derive(Drop)]
+#[derive(Clone, Copy)]
 pub struct Location {
     pub certain: bool,
     pub start: Position,

@@ -1,4 +1,6 @@
 // Whether two positions are one, spans by the bytes that they name.
+#![tactic(auto)]
+
 ghost use Rattle.std.specs.Prelude.{◌≡◌, ◌&&◌};
 ghost use Rattle.texts.specs.Words.{same};
 ghost use Rattle.grammar.specs.Spans.{part};

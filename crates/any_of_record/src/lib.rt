@@ -1,4 +1,6 @@
 // The location of a record, of each kind, as a location of any kind.
+#![tactic(auto)]
+
 ghost use Rattle.std.specs.Prelude.{◌≡◌};
 ghost use Rattle.record.specs.declared.Kind.TheVariants.{Cds, Genome, Mt, Tx, Prot, Rna};
 ghost use Rattle.any_location.specs.OfRecord.{any_position, any_location};

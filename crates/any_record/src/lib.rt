@@ -1,4 +1,6 @@
 // A body of any kind, as the body of a record.
+#![tactic(auto)]
+
 ghost use Rattle.std.specs.Prelude.{◌≡◌};
 ghost use Rattle.any_record.specs.RecordBodies.{loc_edit, record_body};
 

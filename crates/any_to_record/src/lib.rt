@@ -1,4 +1,6 @@
 // A location of any kind as that of a record, of each kind.
+#![tactic(auto)]
+
 ghost use Rattle.std.specs.Prelude.{◌≡◌};
 ghost use Rattle.record.specs.declared.Kind.TheVariants.{Cds, Genome, Mt, Tx, Prot, Rna};
 ghost use Rattle.any_location.specs.ToRecord.{position_for, location_for};

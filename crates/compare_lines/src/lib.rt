@@ -1,4 +1,6 @@
 // For each line of standard input the answer to reading it, on a line of standard output; where columns are wanted, a record has them behind it.
+#![tactic(auto)]
+
 ghost use Rattle.std.specs.Prelude.{◌≤◌, length};
 
 use libc::{STDIN_FILENO, STDOUT_FILENO};
@@ -62,7 +64,7 @@ fn turn(piece: &[u8], buffer: &mut [u8], line: Line, out: &mut [u8], with_column
 }
 
 // Whether to go on, and the line so far.
-#[derive(Drop)]
+#[derive(Clone, Copy)]
 struct Gone {
     going: bool,
     line: Line,

@@ -1,4 +1,6 @@
 // The answer to reading a text as a line: the record in the form that oracle/README.md gives, or `! `, number, a blank, place.
+#![tactic(auto)]
+
 ghost use Rattle.std.specs.Prelude.{◌≤◌, length};
 
 use any_body::AnyBody;
@@ -13,7 +15,7 @@ mod locations; // locations.rt: the ends of a location
 mod edits; // edits.rt: nucleotide and protein edits
 
 // An answer: what is shown, one behind the other.
-#[derive(Drop)]
+#[derive(Clone, Copy)]
 struct Shown {
     header: Fields,
     start: Fields,

@@ -1,4 +1,6 @@
 // Bytes, texts, parts of the source, numbers and refusals into lent room. Each gives the place behind what it wrote; where there is too little room, the room's end.
+#![tactic(auto)]
+
 ghost use Rattle.std.specs.Prelude.{◌≤◌, length};
 
 use record::Span;

@@ -1,4 +1,6 @@
 // A whole text that is to be written: how long it is, and its bytes in lent room.
+#![tactic(auto)]
+
 ghost use Rattle.std.specs.Prelude.{◌≡◌, ◌+◌, ◌*◌, ◌≤◌, length};
 ghost use Rattle.lent.specs.Put.{put};
 ghost use Rattle.emit_draft.specs.Texts.{heading_text, body_text, draft_text};
@@ -9,7 +11,7 @@ use emit_piece::OneByte;
 use record::{Kind, Span};
 
 // The accession, the gene in brackets or nothing, and the kind.
-#[derive(Drop)]
+#[derive(Clone, Copy)]
 pub struct Heading {
     pub accession: Span,
     pub opening: OneByte,
@@ -19,7 +21,7 @@ pub struct Heading {
 }
 
 // A location, and an edit in brackets or none; each may be missing.
-#[derive(Drop)]
+#[derive(Clone, Copy)]
 pub struct BodyPieces {
     pub location: LocationPieces,
     pub opening: OneByte,
@@ -27,7 +29,7 @@ pub struct BodyPieces {
     pub closing: OneByte,
 }
 
-#[derive(Drop)]
+#[derive(Clone, Copy)]
 pub struct Draft {
     pub heading: Heading,
     pub body: BodyPieces,

@@ -1,4 +1,6 @@
 // An edit that is to be written: how long it is, and its bytes in lent room.
+#![tactic(auto)]
+
 ghost use Rattle.std.specs.Prelude.{◌≡◌, ◌+◌, ◌*◌, ◌≤◌, length};
 ghost use Rattle.lent.specs.Put.{put};
 ghost use Rattle.emit_edit.specs.Texts.{edit_text};
@@ -8,7 +10,7 @@ use emit_word::Word;
 use record::Span;
 
 // An edit, in this order: `A>T` is first, word, second; `del5insT` word, amount, joint, last; `extMet-5` word, second, sign, amount.
-#[derive(Drop)]
+#[derive(Clone, Copy)]
 pub struct EditPieces {
     pub first: Span,
     pub word: Word,

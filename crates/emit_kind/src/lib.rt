@@ -1,4 +1,6 @@
 // The kind of a text that is to be written: its bytes in lent room.
+#![tactic(auto)]
+
 ghost use Rattle.std.specs.Prelude.{◌≡◌, ◌+◌, ◌≤◌, length};
 ghost use Rattle.lent.specs.Put.{put};
 ghost use Rattle.grammar.specs.Header.{print_kind};

@@ -1,4 +1,6 @@
 // A location that is to be written: how long it is, and its bytes in lent room.
+#![tactic(auto)]
+
 ghost use Rattle.std.specs.Prelude.{◌≡◌, ◌+◌, ◌*◌, ◌≤◌, length};
 ghost use Rattle.lent.specs.Put.{put};
 ghost use Rattle.emit_location.specs.Texts.{position_text, location_text};
@@ -7,7 +9,7 @@ use emit_piece::{Amount, OneByte};
 use record::Span;
 
 // A position, in this order: `Gly2` is residue, number; `-5+3` mark, number, sign, offset; `?` mark.
-#[derive(Drop)]
+#[derive(Clone, Copy)]
 pub struct PositionPieces {
     pub residue: Span,
     pub mark: OneByte,
@@ -17,7 +19,7 @@ pub struct PositionPieces {
 }
 
 // A location, in this order: brackets or none, one position or two.
-#[derive(Drop)]
+#[derive(Clone, Copy)]
 pub struct LocationPieces {
     pub opening: OneByte,
     pub start: PositionPieces,

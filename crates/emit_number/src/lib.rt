@@ -1,4 +1,6 @@
 // Writing a number: its size without a sign, how long its decimal text is, and the text's bytes in lent room.
+#![tactic(auto)]
+
 ghost use Rattle.std.specs.Prelude.{◌≡◌, ◌+◌, ◌≤◌, nat_abs, length};
 ghost use Rattle.lent.specs.Put.{put};
 ghost use Rattle.numerals.specs.Digits.{dec};

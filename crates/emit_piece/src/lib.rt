@@ -1,4 +1,6 @@
 // The pieces of a text that is to be written: a part of the source, one byte, a number; how long, and their bytes in lent room.
+#![tactic(auto)]
+
 ghost use Rattle.std.specs.Prelude.{◌≡◌, ◌+◌, ◌≤◌, length};
 ghost use Rattle.lent.specs.Put.{put};
 ghost use Rattle.grammar.specs.Spans.{part};
@@ -7,14 +9,14 @@ ghost use Rattle.emit_piece.specs.Texts.{byte_text, amount_text, signed_text};
 use record::Span;
 
 // One byte or none: a sign, a bracket, what joins two ends.
-#[derive(Drop)]
+#[derive(Clone, Copy)]
 pub enum OneByte {
     Nothing,
     Byte(u8),
 }
 
 // The decimal digits of a number, or nothing.
-#[derive(Drop)]
+#[derive(Clone, Copy)]
 pub enum Amount {
     Absent,
     Count(u32),

@@ -1,4 +1,6 @@
 // A drafted text at the front of lent room, where it is not too long and has room.
+#![tactic(auto)]
+
 ghost use Rattle.std.specs.Prelude.{◌≡◌, ◌≤◌, length};
 ghost use Rattle.emit_draft.specs.Texts.{draft_text};
 ghost use Rattle.emit_text.specs.Answered.{answered, left};

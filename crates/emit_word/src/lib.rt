@@ -1,4 +1,6 @@
 // The words of a text that is to be written: how long, and their bytes in lent room.
+#![tactic(auto)]
+
 ghost use Rattle.std.specs.Prelude.{◌≡◌, ◌+◌, ◌≤◌, length};
 ghost use Rattle.lent.specs.Put.{put};
 ghost use Rattle.emit_word.specs.Words.{word_text, start_of};
@@ -6,7 +8,7 @@ ghost use Rattle.emit_word.specs.Words.{word_text, start_of};
 use record::Span;
 
 // A word of an edit, or a protein body without location.
-#[derive(Drop)]
+#[derive(Clone, Copy)]
 pub enum Word {
     Empty,
     Del,

@@ -1,4 +1,6 @@
 // Texts that come as frames, read as their empty lines come.
+#![tactic(auto)]
+
 ghost use Rattle.std.specs.Prelude.{◌≡◌};
 ghost use Rattle.frame_promise.specs.FrameAnswers.{Feeds};
 ghost use Rattle.frame_reader.specs.FrameOutcome.{frame_outcome, refused_for, AnswersText};
@@ -6,7 +8,7 @@ ghost use Rattle.frame_reader.specs.FrameOutcome.{frame_outcome, refused_for, An
 use frames::FrameState;
 use record::{ReadAnswer, Refusal};
 
-#[derive(Drop)]
+#[derive(Clone, Copy)]
 pub enum FrameAnswer {
     // no empty line has come
     Unfinished,
@@ -15,7 +17,7 @@ pub enum FrameAnswer {
 
 // How many bytes of a piece were taken, how many of the text are at the buffer's front, the text so far, and the answer of the text that an
 // empty line ended.
-#[derive(Drop)]
+#[derive(Clone, Copy)]
 pub struct Fed {
     pub used: usize,
     pub len: usize,

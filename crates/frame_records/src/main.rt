@@ -1,5 +1,7 @@
 // For each text that comes as frames on standard input the answer to reading it, on a line of standard output: the record as oracle/README.md says,
 // or `! `, number, a blank, place. The input is fed by calls of a few bytes, so that lines and digits are cut anywhere.
+#![tactic(auto)]
+
 ghost use Rattle.std.specs.Prelude.{◌≤◌, ◌<◌, length};
 
 use frame_reader::FrameAnswer;
@@ -10,7 +12,7 @@ use libc::{STDIN_FILENO, STDOUT_FILENO};
 const CALL: usize = 7;
 
 // How many bytes a call took, the text so far, and how many bytes of the room the answer has.
-#[derive(Drop)]
+#[derive(Clone, Copy)]
 struct Shown {
     used: usize,
     state: FrameState,
@@ -18,7 +20,7 @@ struct Shown {
 }
 
 // Whether to go on, and the text so far.
-#[derive(Drop)]
+#[derive(Clone, Copy)]
 struct Gone {
     going: bool,
     state: FrameState,

@@ -1,4 +1,6 @@
 // Takes the bytes of a piece: lines of hexadecimal, of which a lent buffer gathers the bytes until an empty line.
+#![tactic(auto)]
+
 ghost use Rattle.std.specs.Prelude.{◌≡◌, ◌<◌};
 ghost use Rattle.frames.specs.Frames.{digit_value};
 ghost use Rattle.frames.specs.Taking.{fresh, closes, or_other, line_closed, spoiled, halved, added, after_byte, takes, told};

@@ -1,8 +1,9 @@
 // Texts that come as frames, lines of hexadecimal: what is kept of one between calls, and what a call has taken.
+#![tactic(auto)]
 
 // The text so far: how many of its bytes the buffer holds, whether it has more than fit, whether a line of it is bad;
 // and of the line so far how many digits have come, and the value of one that waits for its second.
-#[derive(Drop)]
+#[derive(Clone, Copy)]
 pub struct FrameState {
     pub len: usize,
     pub long: bool,
@@ -12,7 +13,7 @@ pub struct FrameState {
 }
 
 // How many bytes of a piece were used, whether the last of them is an empty line, and the text with them.
-#[derive(Drop)]
+#[derive(Clone, Copy)]
 pub struct FrameTaken {
     pub used: usize,
     pub ended: bool,

@@ -1,1 +1,2 @@
 // Document 01's language, as definitions and laws.
+#![tactic(auto)]

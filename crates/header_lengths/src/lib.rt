@@ -1,4 +1,6 @@
 // How many bytes at the front of a text are an accession, or a word with bytes of a class behind it.
+#![tactic(auto)]
+
 ghost use Rattle.std.specs.Prelude.{◌≡◌};
 ghost use Rattle.alphabet.specs.Cells.{IsTable};
 ghost use Rattle.alphabet.specs.Classes.{member};

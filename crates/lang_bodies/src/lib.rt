@@ -1,1 +1,2 @@
 // Bodies and whole texts as languages.
+#![tactic(auto)]

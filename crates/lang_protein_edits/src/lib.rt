@@ -1,1 +1,2 @@
 // Protein edits: the edit at the front of a text, and the canonical text of an edit.
+#![tactic(auto)]

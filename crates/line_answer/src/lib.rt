@@ -1,4 +1,6 @@
 // The answer to a line: its shortest text, or `! `, number, a blank, place; then LF.
+#![tactic(auto)]
+
 ghost use Rattle.std.specs.Prelude.{◌≡◌, cond, ◌++◌, ◌∷◌, [], ◌+◌, ◌≤◌, length};
 ghost use Rattle.lent.specs.Put.{put};
 ghost use Rattle.lines.specs.Lines.{line_end, Held.whole, Held.too_long};

@@ -1,6 +1,8 @@
 // The line program: standard input to standard output, in large pieces.
 // No contract can speak of what is read or written. So what comes next is decided, by what the last turn has given, in functions whose
 // contracts say all of it (`line_turns`), and `act` makes the calls.
+#![tactic(auto)]
+
 ghost use Rattle.std.specs.Prelude.{◌≤◌, length};
 ghost use Rattle.line_runs.specs.After.{Ready, Acted};
 ghost use Rattle.line_runs.specs.Runs.{Ran, RanFromZeros};

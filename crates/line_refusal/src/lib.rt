@@ -1,4 +1,6 @@
 // A refusal as the line program writes it: `! `, number, a blank, place.
+#![tactic(auto)]
+
 ghost use Rattle.std.specs.Prelude.{◌≡◌, ◌+◌, ◌≤◌, length};
 ghost use Rattle.lent.specs.Put.{put};
 ghost use Rattle.line_promise.specs.LineAnswers.{refusal};

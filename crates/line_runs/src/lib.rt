@@ -1,9 +1,11 @@
 // Runs of the line program, turn by turn: what comes next, by what the last turn has given, and what the writes of a run have taken.
 // Definitions and laws, in specs/.
+#![tactic(auto)]
+
 use lines::Line;
 
 // The rest of a piece that was read: how long the piece is, how many bytes of it are used, and the line so far.
-#[derive(Drop)]
+#[derive(Clone, Copy)]
 pub struct Rest {
     pub piece: usize,
     pub used: usize,
@@ -11,7 +13,7 @@ pub struct Rest {
 }
 
 // Answers that wait to be written: where they end in the room. Behind them, so many bytes of the piece that was read are used.
-#[derive(Drop)]
+#[derive(Clone, Copy)]
 pub struct Waiting {
     pub at: usize,
     pub piece: usize,
@@ -21,7 +23,7 @@ pub struct Waiting {
 
 // The line so far goes along. Where the input has ended the answer to the last line is made, then written: it is so many bytes.
 // The program stops well where no read and no write has failed.
-#[derive(Drop)]
+#[derive(Clone, Copy)]
 pub enum Next {
     Read(Line),
     Step(Rest),

@@ -1,4 +1,6 @@
 // The line program but for reading and writing: a step over a piece of the input, and the last line.
+#![tactic(auto)]
+
 ghost use Rattle.std.specs.Prelude.{◌≡◌, ◌++◌, ◌∷◌, [], ◌+◌, ◌≤◌, length};
 ghost use Rattle.lent.specs.Put.{put};
 ghost use Rattle.lines.specs.Lines.{line_end};

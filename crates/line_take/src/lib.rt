@@ -1,4 +1,6 @@
 // Takes a piece of an input up to the end of a line; a lent buffer holds the line so far.
+#![tactic(auto)]
+
 ghost use Rattle.std.specs.Prelude.{◌≡◌, ◌||◌, ◌+◌, ◌-◌, ◌≤◌, min, ltb, length, take as first_of, drop as rest};
 ghost use Rattle.texts.specs.Runs.{every, run};
 ghost use Rattle.lent.specs.Put.{put};

@@ -1,4 +1,6 @@
 // What the line program does next, decided by what the last read, step or write has given: none of them is made here.
+#![tactic(auto)]
+
 ghost use Rattle.std.specs.Prelude.{◌+◌, ◌≤◌, ◌≡◌, length};
 ghost use Rattle.line_runs.specs.After.{go_on, after_read, after_step, after_write};
 

@@ -1,4 +1,6 @@
 // Records that no reader gave: on a line each, behind a TAB each, the shortest text, the text without the reference and the width, or `! ` and the refusal's number.
+#![tactic(auto)]
+
 use compare_lines::columns;
 use libc::STDOUT_FILENO;
 use record::{

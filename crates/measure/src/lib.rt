@@ -1,4 +1,6 @@
 // Measuring a record: how many bases or residues its location spans.
+#![tactic(auto)]
+
 ghost use Rattle.grammar.specs.Texts.{all_letters};
 ghost use Rattle.promise.specs.Outcome.{width_outcome};
 ghost use Rattle.promise.specs.Width.{Measures};

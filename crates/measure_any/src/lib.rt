@@ -1,4 +1,6 @@
 // Measuring a header and a body of any kind: how many bases or residues the location spans.
+#![tactic(auto)]
+
 ghost use Rattle.std.specs.Prelude.{◌≡◌};
 ghost use Rattle.record.specs.declared.Wording.TheVariants.{Shortest};
 ghost use Rattle.plan_record.specs.RecordPlans.{record_plan};

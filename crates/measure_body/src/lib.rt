@@ -1,4 +1,6 @@
 // The width of a body's location: document 01, "Width".
+#![tactic(auto)]
+
 ghost use Rattle.std.specs.Prelude.{◌≡◌};
 ghost use Rattle.promise.specs.Width.{prot_width};
 ghost use Rattle.measure_location.specs.LocationWidths.{width_given};

@@ -1,4 +1,6 @@
 // The width of a location of any kind: document 01, "Width", and document 02, request 2.
+#![tactic(auto)]
+
 ghost use Rattle.std.specs.Prelude.{◌≡◌};
 ghost use Rattle.promise.specs.Width.{width_between, between, base_index, anchored};
 ghost use Rattle.measure_location.specs.LocationWidths.{width_given, index_given, has_bases, index_of, end_index, location_width};
@@ -7,14 +9,14 @@ use any_location::{Location, Position};
 use record::{CdsFrom, Kind, Offset};
 
 // The width of a location, where it has one.
-#[derive(Drop)]
+#[derive(Clone, Copy)]
 pub enum LocationWidth {
     NoWidth,
     Width(u64),
 }
 
 // Where an end lies, if a width can go from it or to it.
-#[derive(Drop)]
+#[derive(Clone, Copy)]
 enum EndIndex {
     NoIndex,
     Index(i32),

@@ -1,4 +1,6 @@
 // What an operation on a text answers, in numbers: for C, and for the line program.
+#![tactic(auto)]
+
 ghost use Rattle.std.specs.Prelude.{◌≡◌};
 ghost use Rattle.promise.specs.Outcome.{Outcome.given, write_outcome, width_outcome};
 ghost use Rattle.numbered.specs.Numbered.{bare_answer, refusal_numbers, numbered};
@@ -7,7 +9,7 @@ use record::{Refusal, WidthAnswer, WriteAnswer};
 
 // Document 01's number, 0 where the text was accepted; the place; and the length or width, 0 where it was refused.
 #[repr(C)]
-#[derive(Drop)]
+#[derive(Clone, Copy)]
 pub struct Answer {
     pub number: u64,
     pub place: u64,

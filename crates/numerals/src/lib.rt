@@ -1,8 +1,9 @@
 // Numbers as they are spelled: a sign and digits, and what is read of them.
+#![tactic(auto)]
 
 // What stands before the digits: no sign of their own, as behind the plus of an offset; a plus before a base; a minus; or what makes their negative of an
 // unsigned number.
-#[derive(Drop)]
+#[derive(Clone, Copy)]
 pub enum Sign {
     Unsigned,
     Plus,
@@ -11,7 +12,7 @@ pub enum Sign {
 }
 
 // A number that was read: how many digits it has, its value where it fits and else 0, whether it fits, and whether it is plainly spelled.
-#[derive(Drop)]
+#[derive(Clone, Copy)]
 pub struct Number {
     pub len: usize,
     pub value: i32,

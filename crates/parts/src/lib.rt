@@ -1,4 +1,6 @@
 // Parts of a source that spans name.
+#![tactic(auto)]
+
 ghost use Rattle.std.specs.Prelude.{◌≡◌};
 ghost use Rattle.grammar.specs.Spans.{inside as insideOf};
 ghost use Rattle.parts.specs.Places.{IsPart};

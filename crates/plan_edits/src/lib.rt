@@ -1,4 +1,6 @@
 // What the planners of edits share: the pieces of an edit or no text, pieces of letters, and the numbers that may be written.
+#![tactic(auto)]
+
 ghost use Rattle.std.specs.Prelude.{◌≡◌};
 ghost use Rattle.plan_edits.specs.EditPlans.{edit_if, letters_edit, word_edit, word_alone, is_unsigned};
 
@@ -10,7 +12,7 @@ use record::Span;
 pub const NO_SPAN: Span = Span { start: 0, end: 0 };
 
 // The edit whose text is to be written, where there is one.
-#[derive(Drop)]
+#[derive(Clone, Copy)]
 pub enum EditPlan {
     NoText,
     Text(EditPieces),

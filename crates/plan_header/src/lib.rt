@@ -1,4 +1,6 @@
 // Which headers have a text, and what is to be written for one: the accession's bytes are one as a whole, and the gene's, where there is one, are letters or digits.
+#![tactic(auto)]
+
 ghost use Rattle.std.specs.Prelude.{◌≡◌};
 ghost use Rattle.alphabet.specs.Cells.{IsTable};
 ghost use Rattle.grammar.specs.Spans.{optional_part};

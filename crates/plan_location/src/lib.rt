@@ -1,4 +1,6 @@
 // What is to be written for a location of any kind: brackets or none, and one position where both ends are one, else two.
+#![tactic(auto)]
+
 ghost use Rattle.std.specs.Prelude.{◌≡◌, true};
 ghost use Rattle.alphabet.specs.Cells.{IsTable};
 ghost use Rattle.plan_location.specs.Plan.{held_offset, sign_mark, offset_sign, offset_amount, end_plan, unsigned_plan, based_plan, genomic_plan, residual_plan, position_plan, bracket_mark, location_plan, plan_location};
@@ -17,13 +19,13 @@ pub const NO_END: PositionPieces = PositionPieces {
 };
 
 // A position that is to be written, where it has a text.
-#[derive(Drop)]
+#[derive(Clone, Copy)]
 pub enum PositionPlan {
     NoText,
     Text(PositionPieces),
 }
 
-#[derive(Drop)]
+#[derive(Clone, Copy)]
 pub enum LocationPlan {
     NoText,
     Text(LocationPieces),

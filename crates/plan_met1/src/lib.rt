@@ -1,4 +1,6 @@
 // The Met-1 `?` record: its composed text would be `Met1?` or `(Met1?)`, which read as another, so `Met01` stands for its location.
+#![tactic(auto)]
+
 ghost use Rattle.std.specs.Prelude.{◌≡◌};
 ghost use Rattle.texts.specs.Words.{same};
 ghost use Rattle.grammar.specs.Spans.{part};

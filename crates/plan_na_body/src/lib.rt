@@ -1,4 +1,6 @@
 // What is to be written for a nucleotide body: its location, then its edit, which stands in brackets where it is not certain.
+#![tactic(auto)]
+
 ghost use Rattle.std.specs.Prelude.{◌≡◌};
 ghost use Rattle.alphabet.specs.Cells.{IsTable};
 ghost use Rattle.plan_na_body.specs.Plan.{joined_plan, na_pieces, is_certain, edit_of, plan_na_body};
@@ -10,7 +12,7 @@ use plan_location::LocationPlan;
 use record::{Kind, MuNaEdit, NaEdit, Wording};
 
 // A body that is to be written, where it has a text.
-#[derive(Drop)]
+#[derive(Clone, Copy)]
 pub enum BodyPlan {
     NoText,
     Text(BodyPieces),

@@ -1,4 +1,6 @@
 // Which text is to be written for a nucleotide edit: its pieces, or none.
+#![tactic(auto)]
+
 ghost use Rattle.std.specs.Prelude.{◌≡◌};
 ghost use Rattle.alphabet.specs.Cells.{IsTable};
 ghost use Rattle.plan_na_edit.specs.Plan.{del_ins_pieces, count_pieces, plan_change, plan_ref_alt, plan_num_alt, plan_count, plan_seq, plan_ins, plan_na_edit};

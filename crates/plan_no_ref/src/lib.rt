@@ -1,4 +1,6 @@
 // Which text is to be written for a nucleotide edit without the reference.
+#![tactic(auto)]
+
 ghost use Rattle.std.specs.Prelude.{◌≡◌};
 ghost use Rattle.plan_no_ref.specs.NoRef.{no_ref_alt, no_ref_pieces};
 

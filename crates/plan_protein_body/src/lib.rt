@@ -1,4 +1,6 @@
 // What is to be written for a protein body: location and edit, in one pair of brackets where both are uncertain; or a word alone.
+#![tactic(auto)]
+
 ghost use Rattle.std.specs.Prelude.{◌≡◌, ◌||◌, not};
 ghost use Rattle.alphabet.specs.Cells.{IsTable};
 ghost use Rattle.plan_protein_body.specs.Plan.{body_of, together_plan, plan_ordinary, plan_mu_protein, word_body, plan_protein_body};

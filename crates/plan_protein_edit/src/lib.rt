@@ -1,4 +1,6 @@
 // Which text is to be written for a protein edit: its pieces, or none.
+#![tactic(auto)]
+
 ghost use Rattle.std.specs.Prelude.{◌≡◌};
 ghost use Rattle.alphabet.specs.Cells.{IsTable};
 ghost use Rattle.plan_protein_edit.specs.Plan.{plan_subst, plan_residues, plan_protein_edit};

@@ -1,4 +1,6 @@
 // Which text is to be written for a protein edit with `fs` or `ext`: its pieces, or none.
+#![tactic(auto)]
+
 ghost use Rattle.std.specs.Prelude.{◌≡◌};
 ghost use Rattle.alphabet.specs.Cells.{IsTable};
 ghost use Rattle.plan_protein_ends.specs.EndPlans.{span_of, amount_of, joint_of, end_pieces, is_length, is_none, is_terminal_with, is_stop, is_earlier, plan_fs, plan_ext};

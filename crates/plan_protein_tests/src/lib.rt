@@ -1,4 +1,6 @@
 // Tests of the residues, the terminal and the number that a protein edit has.
+#![tactic(auto)]
+
 ghost use Rattle.std.specs.Prelude.{◌≡◌};
 ghost use Rattle.alphabet.specs.Cells.{IsTable};
 ghost use Rattle.plan_protein_tests.specs.Tests.{is_negated, is_terminal, is_optional_part, is_subst};

@@ -1,4 +1,6 @@
 // The checks on a source and a record, its header and its body of any kind, and what is to be written for the record where it passes them.
+#![tactic(auto)]
+
 ghost use Rattle.std.specs.Prelude.{◌≡◌};
 ghost use Rattle.plan_record.specs.RecordPlans.{record_plan};
 

@@ -1,4 +1,6 @@
 // What is to be written for a header and a body, where they have a text.
+#![tactic(auto)]
+
 ghost use Rattle.std.specs.Prelude.{◌≡◌};
 ghost use Rattle.alphabet.specs.Cells.{IsTable};
 ghost use Rattle.plan_text.specs.Plan.{any_kind, plan_any, drafted_plan, text_plan};
@@ -9,7 +11,7 @@ use plan_na_body::BodyPlan;
 use record::{Header, Kind, Refusal, Wording};
 
 // A text that is to be written, or why there is none.
-#[derive(Drop)]
+#[derive(Clone, Copy)]
 pub enum TextPlan {
     Refused(Refusal),
     Text(Draft),

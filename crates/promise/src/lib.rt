@@ -1,1 +1,2 @@
 // What each operation answers, as relations between input and answer.
+#![tactic(auto)]

@@ -1,4 +1,6 @@
 // Reading the header, and the kind behind it.
+#![tactic(auto)]
+
 ghost use Rattle.std.specs.Prelude.{◌≡◌, ◌+◌, ◌≤◌, length};
 ghost use Rattle.alphabet.specs.Cells.{IsTable};
 ghost use Rattle.lang_headers.specs.Parse.{parse_gene, parse_header};
@@ -9,13 +11,13 @@ use alphabet::Class;
 use record::{Header, Kind, Part};
 
 // The header at the front of a text, and the length of its text.
-#[derive(Drop)]
+#[derive(Clone, Copy)]
 pub enum HeaderRead {
     Nothing,
     Found(Header, usize),
 }
 
-#[derive(Drop)]
+#[derive(Clone, Copy)]
 pub enum KindRead {
     Nothing,
     Found(Kind),

@@ -1,4 +1,6 @@
 // Reading intervals and locations of any kind at the front of a text.
+#![tactic(auto)]
+
 ghost use Rattle.std.specs.Prelude.{◌≡◌, ◌+◌, ◌≤◌, length};
 ghost use Rattle.alphabet.specs.Cells.{IsTable};
 ghost use Rattle.lang_locations.specs.Languages.{ends_lang, location_lang};
@@ -10,7 +12,7 @@ use read_scan::{Ending, Faults};
 use record::Kind;
 
 // The location, how long its text is, and what is wrong with its numbers.
-#[derive(Drop)]
+#[derive(Clone, Copy)]
 pub enum LocationRead {
     Nothing,
     Found(Location, usize, Faults),

@@ -1,4 +1,6 @@
 // Reading what stands around the digits of a base: the mark before them and the offset behind them.
+#![tactic(auto)]
+
 ghost use Rattle.std.specs.Prelude.{◌≡◌, ◌+◌, ◌≤◌, length};
 ghost use Rattle.alphabet.specs.Cells.{IsTable};
 ghost use Rattle.grammar.specs.Positions.{Mark.bare, OffsetTree.absent};
@@ -10,7 +12,7 @@ use read_scan::Faults;
 use record::{CdsFrom, Offset};
 
 // What stands before the digits of a base: how long it is, and what it says.
-#[derive(Drop)]
+#[derive(Clone, Copy)]
 pub struct MarkRead {
     pub len: usize,
     pub sign: Sign,
@@ -18,7 +20,7 @@ pub struct MarkRead {
 }
 
 // The offset, how long its text is, and what is wrong with its number.
-#[derive(Drop)]
+#[derive(Clone, Copy)]
 pub struct OffsetRead {
     pub offset: Offset,
     pub len: usize,

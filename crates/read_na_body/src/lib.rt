@@ -1,4 +1,6 @@
 // Reading a body of c, g, m, n or r: location and edit, up to the end of the text.
+#![tactic(auto)]
+
 ghost use Rattle.std.specs.Prelude.{◌≡◌, ◌+◌, ◌≤◌, length};
 ghost use Rattle.alphabet.specs.Cells.{IsTable};
 ghost use Rattle.alphabet.specs.Letters.{nucleotide};
@@ -15,7 +17,7 @@ use read_scan::Faults;
 use record::{Kind, Span};
 
 // A body that stands up to the end of the text, and what is wrong with its numbers.
-#[derive(Drop)]
+#[derive(Clone, Copy)]
 pub enum BodyRead {
     Nothing,
     Found(AnyBody, Faults),

@@ -1,4 +1,6 @@
 // Reading a nucleotide edit that begins with `del`. `at` is where the edit starts in the whole text.
+#![tactic(auto)]
+
 ghost use Rattle.std.specs.Prelude.{◌≡◌, ◌+◌, ◌≤◌, length};
 ghost use Rattle.std.proofs.Math.Option.{some};
 ghost use Rattle.texts.specs.Runs.{front, behind};

@@ -1,4 +1,6 @@
 // Reading a nucleotide edit, which is certain, or uncertain when in round brackets.
+#![tactic(auto)]
+
 ghost use Rattle.std.specs.Prelude.{◌≡◌, ◌+◌, ◌≤◌, length};
 ghost use Rattle.alphabet.specs.Cells.{IsTable};
 ghost use Rattle.alphabet.specs.Letters.{nucleotide};
@@ -13,7 +15,7 @@ use read_scan::{Ending, Faults};
 use record::{MuNaEdit, NaEdit};
 
 // The edit, the length of its text with the brackets, and what is wrong with it.
-#[derive(Drop)]
+#[derive(Clone, Copy)]
 pub enum MuNaEditRead {
     Nothing,
     Found(MuNaEdit, usize, Faults),

@@ -1,4 +1,6 @@
 // Reading a nucleotide edit of each form but `del`.
+#![tactic(auto)]
+
 ghost use Rattle.std.specs.Prelude.{◌≡◌, ◌+◌, ◌≤◌, length};
 ghost use Rattle.std.proofs.Math.Option.{some};
 ghost use Rattle.alphabet.specs.Cells.{IsTable};
@@ -12,7 +14,7 @@ use read_scan::Faults;
 use record::NaEdit;
 
 // What stands at the front of a text: the edit, the length of its text, and what is wrong with it.
-#[derive(Drop)]
+#[derive(Clone, Copy)]
 pub enum NaEditRead {
     Nothing,
     Found(NaEdit, usize, Faults),

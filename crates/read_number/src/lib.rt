@@ -1,4 +1,6 @@
 // Reading a number: what the digits at the front of a text are, with the sign that stood before them.
+#![tactic(auto)]
+
 ghost use Rattle.std.specs.Prelude.{◌≡◌, ◌≤◌, min, pos, neg_ℤ};
 ghost use Rattle.alphabet.specs.Cells.{IsTable};
 ghost use Rattle.texts.specs.Ascii.{ascii};

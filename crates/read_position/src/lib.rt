@@ -1,4 +1,6 @@
 // Reading a position of any kind at the front of a text.
+#![tactic(auto)]
+
 ghost use Rattle.std.specs.Prelude.{◌≡◌, ◌+◌, ◌≤◌, length};
 ghost use Rattle.alphabet.specs.Cells.{IsTable};
 ghost use Rattle.record.specs.declared.Kind.TheVariants.{Cds, Genome, Prot};
@@ -12,14 +14,14 @@ use read_scan::Faults;
 use record::Kind;
 
 // The position, how long its text is, and what is wrong with its numbers.
-#[derive(Drop)]
+#[derive(Clone, Copy)]
 pub enum PositionRead {
     Nothing,
     Found(Position, usize, Faults),
 }
 
 // How a kind writes its positions: a base with or without an offset; digits, or `?`; a residue with digits.
-#[derive(Drop)]
+#[derive(Clone, Copy)]
 enum Form {
     Based,
     Genomic,

@@ -1,4 +1,6 @@
 // Reading a body of p: the texts without location, tried as a whole, else location and edit, up to the end of the text.
+#![tactic(auto)]
+
 ghost use Rattle.std.specs.Prelude.{◌≡◌, ◌+◌, ◌≤◌, length};
 ghost use Rattle.alphabet.specs.Cells.{IsTable};
 ghost use Rattle.record.specs.declared.Kind.TheVariants.{Prot};
@@ -11,7 +13,7 @@ use read_na_body::BodyRead;
 use read_protein_change::OrdinaryRead;
 use record::ProtLocEdit;
 
-#[derive(Drop)]
+#[derive(Clone, Copy)]
 pub enum ExactRead {
     Nothing,
     Found(ProtLocEdit),

@@ -1,4 +1,6 @@
 // Reading a location and an edit of p at the front of a text.
+#![tactic(auto)]
+
 ghost use Rattle.std.specs.Prelude.{◌≡◌, ◌+◌, ◌≤◌, length};
 ghost use Rattle.alphabet.specs.Cells.{IsTable};
 ghost use Rattle.lang_protein_edits.specs.Instance.{protein_edit_lang, mu_protein_edit_lang};
@@ -12,7 +14,7 @@ use read_protein_ends::ProteinEditRead;
 use read_scan::Faults;
 use record::{Kind, MuProteinEdit, ProtLocEdit};
 
-#[derive(Drop)]
+#[derive(Clone, Copy)]
 pub enum OrdinaryRead {
     Nothing,
     Found(ProtLocEdit, usize, Faults),

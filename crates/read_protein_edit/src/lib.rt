@@ -1,4 +1,6 @@
 // Reading a protein edit, which is certain, or uncertain when in round brackets.
+#![tactic(auto)]
+
 ghost use Rattle.std.specs.Prelude.{◌≡◌, ◌+◌, ◌≤◌, length};
 ghost use Rattle.alphabet.specs.Cells.{IsTable};
 ghost use Rattle.lang_protein_edits.specs.Parse.{residues_behind, worded_at};
@@ -9,7 +11,7 @@ use read_protein_ends::ProteinEditRead;
 use read_scan::{Ending, Faults};
 use record::{MuProteinEdit, ProteinEdit};
 
-#[derive(Drop)]
+#[derive(Clone, Copy)]
 pub enum MuProteinEditRead {
     Nothing,
     Found(MuProteinEdit, usize, Faults),

@@ -1,4 +1,6 @@
 // Reading what stands behind `fs` and `ext` in a protein edit: terminals, lengths, and the edit that they end.
+#![tactic(auto)]
+
 ghost use Rattle.std.specs.Prelude.{◌≡◌, ◌+◌, ◌≤◌, length};
 ghost use Rattle.alphabet.specs.Cells.{IsTable};
 ghost use Rattle.lang_protein_edits.specs.Parse.{terminal_at, length_at, stop_at, earlier_at, later_of, ext_end_at};
@@ -9,13 +11,13 @@ use read_scan::Faults;
 use record::{Part, ProteinEdit, UncertainLengthChange};
 
 // What stands at the front of a text: an edit, how long it is, and what is wrong with its number.
-#[derive(Drop)]
+#[derive(Clone, Copy)]
 pub enum ProteinEditRead {
     Nothing,
     Found(ProteinEdit, usize, Faults),
 }
 
-#[derive(Drop)]
+#[derive(Clone, Copy)]
 pub struct LengthRead {
     pub change: UncertainLengthChange,
     pub len: usize,
@@ -23,7 +25,7 @@ pub struct LengthRead {
 }
 
 // A terminal, which may be missing, with what is said behind it.
-#[derive(Drop)]
+#[derive(Clone, Copy)]
 pub struct StopRead {
     pub terminal: Part,
     pub change: UncertainLengthChange,

@@ -1,4 +1,6 @@
 // What the readers share: brackets, spans, and the places of what is wrong.
+#![tactic(auto)]
+
 ghost use Rattle.std.specs.Prelude.{◌≡◌, ◌+◌, ◌≤◌, ◌<◌, ◌^◌, length};
 ghost use Rattle.texts.specs.Brackets.{opening as openingOf};
 ghost use Rattle.grammar.specs.Records.{span as spanFrom};
@@ -20,13 +22,13 @@ pub const DOES_NOT_FIT: usize = 3;
 const RANKS: usize = 16;
 
 // The rank of what is told of a part, and RANKS times its place. A number is handed on in a register, an enum is not.
-#[derive(Drop)]
+#[derive(Clone, Copy)]
 pub struct Faults {
     pub code: usize,
 }
 
 // What a code says. Settled or not, a part has no place: it is 0.
-#[derive(Drop)]
+#[derive(Clone, Copy)]
 pub struct Verdict {
     pub rank: usize,
     pub place: usize,
@@ -43,7 +45,7 @@ pub fn opening(s: &[u8]) -> usize
 }
 
 // How a part ends that may stand behind an opening bracket.
-#[derive(Drop)]
+#[derive(Clone, Copy)]
 pub enum Ending {
     // no bracket was opened
     Bare,

@@ -1,4 +1,6 @@
 // Reading any bytes: the header, the kind, then the body up to the end; the body is one of any kind.
+#![tactic(auto)]
+
 ghost use Rattle.std.specs.Prelude.{◌≡◌, ◌+◌, ◌≤◌, length};
 ghost use Rattle.alphabet.specs.Cells.{IsTable};
 ghost use Rattle.grammar.specs.Texts.{all_letters};
@@ -15,7 +17,7 @@ use record::{Header, Kind, Refusal};
 
 // What reading a text tells: the refusal; or the header and the body of its record. A text is settled where its spelling shows that it is the shortest text of
 // its record.
-#[derive(Drop)]
+#[derive(Clone, Copy)]
 pub enum Reading {
     Refused(Refusal),
     Settled(Header, AnyBody),

@@ -1,4 +1,6 @@
 // Reading any bytes: the record.
+#![tactic(auto)]
+
 ghost use Rattle.std.specs.Prelude.{◌≡◌};
 ghost use Rattle.grammar.specs.Texts.{all_letters};
 ghost use Rattle.promise.specs.Outcome.{read_outcome};

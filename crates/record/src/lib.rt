@@ -1,14 +1,15 @@
 // The record of a variant, and what the operations on it answer.
+#![tactic(auto)]
 
 // The bytes of the source from start up to end.
-#[derive(Drop)]
+#[derive(Clone, Copy)]
 pub struct Span {
     pub start: usize,
     pub end: usize,
 }
 
 // A part that may be missing. An empty part that is there is not a missing one.
-#[derive(Drop)]
+#[derive(Clone, Copy)]
 pub enum Part {
     Absent,
     Present(Span),
@@ -17,122 +18,122 @@ pub enum Part {
 // Positions and intervals, in the crate's names; numbers are i32.
 
 // An offset of 0 is not a missing one.
-#[derive(Drop)]
+#[derive(Clone, Copy)]
 pub enum Offset {
     Absent,
     By(i32),
 }
 
-#[derive(Drop)]
+#[derive(Clone, Copy)]
 pub enum CdsFrom {
     Start,
     End,
 }
 
-#[derive(Drop)]
+#[derive(Clone, Copy)]
 pub struct CdsPos {
     pub base: i32,
     pub offset: Offset,
     pub cds_from: CdsFrom,
 }
 
-#[derive(Drop)]
+#[derive(Clone, Copy)]
 pub enum GenomePos {
     Unknown,
     At(i32),
 }
 
-#[derive(Drop)]
+#[derive(Clone, Copy)]
 pub enum MtPos {
     Unknown,
     At(i32),
 }
 
-#[derive(Drop)]
+#[derive(Clone, Copy)]
 pub struct TxPos {
     pub base: i32,
     pub offset: Offset,
 }
 
-#[derive(Drop)]
+#[derive(Clone, Copy)]
 pub struct RnaPos {
     pub base: i32,
     pub offset: Offset,
 }
 
-#[derive(Drop)]
+#[derive(Clone, Copy)]
 pub struct ProtPos {
     pub aa: Span,
     pub number: i32,
 }
 
-#[derive(Drop)]
+#[derive(Clone, Copy)]
 pub struct CdsInterval {
     pub start: CdsPos,
     pub end: CdsPos,
 }
 
-#[derive(Drop)]
+#[derive(Clone, Copy)]
 pub struct GenomeInterval {
     pub start: GenomePos,
     pub end: GenomePos,
 }
 
-#[derive(Drop)]
+#[derive(Clone, Copy)]
 pub struct MtInterval {
     pub start: MtPos,
     pub end: MtPos,
 }
 
-#[derive(Drop)]
+#[derive(Clone, Copy)]
 pub struct TxInterval {
     pub start: TxPos,
     pub end: TxPos,
 }
 
-#[derive(Drop)]
+#[derive(Clone, Copy)]
 pub struct RnaInterval {
     pub start: RnaPos,
     pub end: RnaPos,
 }
 
-#[derive(Drop)]
+#[derive(Clone, Copy)]
 pub struct ProtInterval {
     pub start: ProtPos,
     pub end: ProtPos,
 }
 
-#[derive(Drop)]
+#[derive(Clone, Copy)]
 pub enum MuCdsInterval {
     Certain(CdsInterval),
     Uncertain(CdsInterval),
 }
 
-#[derive(Drop)]
+#[derive(Clone, Copy)]
 pub enum MuGenomeInterval {
     Certain(GenomeInterval),
     Uncertain(GenomeInterval),
 }
 
-#[derive(Drop)]
+#[derive(Clone, Copy)]
 pub enum MuMtInterval {
     Certain(MtInterval),
     Uncertain(MtInterval),
 }
 
-#[derive(Drop)]
+#[derive(Clone, Copy)]
 pub enum MuTxInterval {
     Certain(TxInterval),
     Uncertain(TxInterval),
 }
 
-#[derive(Drop)]
+#[derive(Clone, Copy)]
 pub enum MuRnaInterval {
     Certain(RnaInterval),
     Uncertain(RnaInterval),
 }
 
-#[derive(Drop)]
+#[derive(Clone, Copy)]
 pub enum MuProtInterval {
     Certain(ProtInterval),
     Uncertain(ProtInterval),
@@ -140,7 +141,7 @@ pub enum MuProtInterval {
 
 // Edits, in the crate's names and cases; letters, residues and terminals are parts of the source.
 
-#[derive(Drop)]
+#[derive(Clone, Copy)]
 pub enum NaEdit {
     RefAlt(Span, Span),
     NumAlt(i32, Span),
@@ -152,14 +153,14 @@ pub enum NaEdit {
     InvNum(i32),
 }
 
-#[derive(Drop)]
+#[derive(Clone, Copy)]
 pub enum UncertainLengthChange {
     None,
     Unknown,
     Known(i32),
 }
 
-#[derive(Drop)]
+#[derive(Clone, Copy)]
 pub enum ProteinEdit {
     // alternative, terminal, length
     Fs(Part, Part, UncertainLengthChange),
@@ -173,13 +174,13 @@ pub enum ProteinEdit {
     Ident,
 }
 
-#[derive(Drop)]
+#[derive(Clone, Copy)]
 pub enum MuNaEdit {
     Certain(NaEdit),
     Uncertain(NaEdit),
 }
 
-#[derive(Drop)]
+#[derive(Clone, Copy)]
 pub enum MuProteinEdit {
     Certain(ProteinEdit),
     Uncertain(ProteinEdit),
@@ -188,7 +189,7 @@ pub enum MuProteinEdit {
 // A variant: the header beside a body of one of six kinds.
 
 // The kind letters c, g, m, n, p and r.
-#[derive(Drop)]
+#[derive(Clone, Copy)]
 pub enum Kind {
     Cds,
     Genome,
@@ -198,43 +199,43 @@ pub enum Kind {
     Rna,
 }
 
-#[derive(Drop)]
+#[derive(Clone, Copy)]
 pub struct Header {
     pub accession: Span,
     pub gene_symbol: Part,
 }
 
-#[derive(Drop)]
+#[derive(Clone, Copy)]
 pub struct CdsLocEdit {
     pub loc: MuCdsInterval,
     pub edit: MuNaEdit,
 }
 
-#[derive(Drop)]
+#[derive(Clone, Copy)]
 pub struct GenomeLocEdit {
     pub loc: MuGenomeInterval,
     pub edit: MuNaEdit,
 }
 
-#[derive(Drop)]
+#[derive(Clone, Copy)]
 pub struct MtLocEdit {
     pub loc: MuMtInterval,
     pub edit: MuNaEdit,
 }
 
-#[derive(Drop)]
+#[derive(Clone, Copy)]
 pub struct TxLocEdit {
     pub loc: MuTxInterval,
     pub edit: MuNaEdit,
 }
 
-#[derive(Drop)]
+#[derive(Clone, Copy)]
 pub struct RnaLocEdit {
     pub loc: MuRnaInterval,
     pub edit: MuNaEdit,
 }
 
-#[derive(Drop)]
+#[derive(Clone, Copy)]
 pub enum ProtLocEdit {
     Ordinary(MuProtInterval, MuProteinEdit),
     NoChange,
@@ -245,7 +246,7 @@ pub enum ProtLocEdit {
     InitiationUncertain,
 }
 
-#[derive(Drop)]
+#[derive(Clone, Copy)]
 pub enum Body {
     Cds(CdsLocEdit),
     Genome(GenomeLocEdit),
@@ -255,21 +256,21 @@ pub enum Body {
     Rna(RnaLocEdit),
 }
 
-#[derive(Drop)]
+#[derive(Clone, Copy)]
 pub struct HgvsVariant {
     pub header: Header,
     pub body: Body,
 }
 
 // Which text of a record is to be written: its shortest, or the one without the reference.
-#[derive(Drop)]
+#[derive(Clone, Copy)]
 pub enum Wording {
     Shortest,
     NoRef,
 }
 
 // Why an operation gives nothing, in the order of the numbers.
-#[derive(Drop)]
+#[derive(Clone, Copy)]
 pub enum Refusal {
     TooLong,
     NotInGrammar,
@@ -284,20 +285,20 @@ pub enum Refusal {
 
 // What reading, writing and measuring answer.
 
-#[derive(Drop)]
+#[derive(Clone, Copy)]
 pub enum ReadAnswer {
     Accepted(HgvsVariant),
     Refused(Refusal),
 }
 
-#[derive(Drop)]
+#[derive(Clone, Copy)]
 pub enum WriteAnswer {
     // the length of the text
     Written(usize),
     Refused(Refusal),
 }
 
-#[derive(Drop)]
+#[derive(Clone, Copy)]
 pub enum WidthAnswer {
     Width(u64),
     Refused(Refusal),

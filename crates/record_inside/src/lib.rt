@@ -1,4 +1,6 @@
 // Which records have every span in their source.
+#![tactic(auto)]
+
 ghost use Rattle.std.specs.Prelude.{◌≡◌, ◌&&◌};
 ghost use Rattle.grammar.specs.Spans.{inside, inside_optional};
 ghost use Rattle.grammar.specs.Contents.{na_edit_inside, mu_na_edit_inside, protein_edit_inside, mu_protein_edit_inside, prot_location_inside, prot_body_inside};

@@ -1,4 +1,6 @@
 // The residues: one letter or `*`, or three letters.
+#![tactic(auto)]
+
 ghost use Rattle.std.specs.Prelude.{◌≡◌};
 ghost use Rattle.alphabet.specs.Cells.{IsTable};
 ghost use Rattle.residue.specs.Residues.{is_residue, is_residues};

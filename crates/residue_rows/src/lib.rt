@@ -1,4 +1,6 @@
 // The three-letter residues: 25 rows of three bytes, and the search for the row that a text starts with.
+#![tactic(auto)]
+
 ghost use Rattle.std.specs.Prelude.{◌≡◌};
 ghost use Rattle.residue_rows.specs.Rows.{row_of};
 ghost use Rattle.residue_rows.specs.Beginning.{beginning, packed};
@@ -34,7 +36,7 @@ const ROWS: [[u8; 3]; 25] = [
 // A byte that is no row's number.
 const NO_ROW: usize = 255;
 
-#[derive(Drop)]
+#[derive(Clone, Copy)]
 pub enum RowFound {
     Row(usize),
     Nothing,

@@ -1,4 +1,6 @@
 // Writing the record that a text reads as: its shortest text, or the text without the reference.
+#![tactic(auto)]
+
 ghost use Rattle.std.specs.Prelude.{◌≡◌, ◌≤◌, length};
 ghost use Rattle.record.specs.declared.Wording.TheVariants.{NoRef};
 ghost use Rattle.grammar.specs.Texts.{all_letters};

@@ -1,4 +1,6 @@
 // For C: operations on a text, in numbers and byte slices. c/saltwhistle.h says the same to a C programmer.
+#![tactic(auto)]
+
 ghost use Rattle.grammar.specs.Texts.{all_letters};
 ghost use Rattle.promise.specs.Writing.{ToWrite};
 ghost use Rattle.promise.specs.NoRef.{NoRefText};

@@ -1,4 +1,6 @@
 // Words at the front of a text, and texts that are one.
+#![tactic(auto)]
+
 ghost use Rattle.std.specs.Prelude.{◌≡◌};
 ghost use Rattle.texts.specs.Words.{starts, same};
 

@@ -1,4 +1,6 @@
 // Writing a header and a body of any kind into lent room, in the wording that is wanted.
+#![tactic(auto)]
+
 ghost use Rattle.std.specs.Prelude.{◌≡◌};
 ghost use Rattle.plan_record.specs.RecordPlans.{record_plan};
 ghost use Rattle.write_any.specs.PlanWritten.{plan_answered, plan_left};

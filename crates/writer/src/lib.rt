@@ -1,4 +1,6 @@
 // Writing a record into lent room: its shortest text, or the one without the reference.
+#![tactic(auto)]
+
 ghost use Rattle.grammar.specs.Texts.{all_letters};
 ghost use Rattle.promise.specs.Outcome.{write_outcome};
 ghost use Rattle.promise.specs.Writing.{Writes, ToWrite};
