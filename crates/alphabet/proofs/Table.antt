@@ -25,7 +25,7 @@ every_class_lem p e class =
     let l = and-true (p Letter) _ d.1 in
     let a = and-true (p Alphanumeric) _ l.1 in
     let n = and-true (p Nucleotide) _ a.1 in
-    elim class [ Digit ↦ d.0 | Letter ↦ l.0 | Alphanumeric ↦ a.0 | Nucleotide ↦ n.0 | Residue ↦ n.1 ]
+    elim class as (λ (k : Class). p k ≡ true) [ Digit ↦ d.0 | Letter ↦ l.0 | Alphanumeric ↦ a.0 | Nucleotide ↦ n.0 | Residue ↦ n.1 ]
 
 -- each class has the number k exactly where it has the byte b
 abbrev in_classes : ℕ → ℕ → Bool

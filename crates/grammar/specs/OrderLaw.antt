@@ -23,9 +23,9 @@ pub data InOrder : ℕ → List Numeral → List ℕ → Type 0 where
   next : {k : ℕ} {sign : Sign} {ds x : List ℕ} {ns : List Numeral} (gap : List ℕ) → Digits ds → InOrder (k + length gap + length ds) ns x → InOrder k (numeral (k + length gap) sign ds ∷ ns) (gap ++ (ds ++ x))
 
 -- ---- in a text that is put together
-behind : {k : ℕ} {ns : List Numeral} {x : List ℕ} (w : List ℕ) → InOrder (k + length w) ns x → InOrder k ns (w ++ x)
+behind : (w : List ℕ) {k : ℕ} {ns : List Numeral} {x : List ℕ} → InOrder (k + length w) ns x → InOrder k ns (w ++ x)
 behind w no_more = no_more
-behind {k} w (next {ds = ds} {x = x} gap d r) =
+behind w {k} (next {ds = ds} {x = x} gap d r) =
     let e : k + length w + length gap ≡ k + length (w ++ gap) = omega (arith, length-append w gap) in
     rw (e, ← append_assoc w gap (ds ++ x)) (next (w ++ gap) d (rw e at r))
 
@@ -152,7 +152,7 @@ Ascending k (numeral place sign ds ∷ ns) e = (k ≤ place) × Ascending (place
 
 wider : {j k e f : ℕ} (ns : List Numeral) → j ≤ k → e ≤ f → Ascending k ns e → Ascending j ns f
 wider [] h l a = omega arith
-wider (numeral place sign ds ∷ ns) h l a = (omega arith, wider ns (omega arith) l a.1)
+wider {e = e} {f = f} (numeral place sign ds ∷ ns) h l a = (omega arith, wider {j = place + 1} {k = place + 1} {e = e} {f = f} ns (omega arith) l a.1)
 
 pub ascending : {k : ℕ} {ns : List Numeral} {x : List ℕ} → InOrder k ns x → Ascending k ns (k + length x)
 ascending no_more = omega arith

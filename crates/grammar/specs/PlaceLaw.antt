@@ -17,7 +17,7 @@ use Rattle.grammar.specs.OrderLaw.{InOrder, InOrder.no_more, InOrder.next, numbe
 -- every number stands at k or behind it
 from_on : {k q : ℕ} {z : Sign} {ds : List ℕ} (e : ℕ) (ns : List Numeral) → Ascending k ns e → Memᴰ (numeral q z ds) ns → k ≤ q
 from_on e [] a m = absurd (Memᴰ.not-nil m)
-from_on {k} {q} {z} {ds} e (numeral place sign es ∷ ns) a m = go (Memᴰ.cases_cons m) (from_on e ns a.1)
+from_on {k} {q} {z} {ds} e (numeral place sign es ∷ ns) a m = go (Memᴰ.cases_cons m) (from_on {k = place + 1} {q = q} {z = z} {ds = ds} e ns a.1)
   where
     go : (numeral q z ds ≡ numeral place sign es) ⊎ Memᴰ (numeral q z ds) ns → (Memᴰ (numeral q z ds) ns → place + 1 ≤ q) → k ≤ q
     go (inl i) rest = let j : q ≡ place = cc in omega (arith, a.0)
