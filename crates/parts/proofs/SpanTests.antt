@@ -18,10 +18,10 @@ module _ (source : Bor (List ℕ)) (p : Span) where
       let h = and-true (leb p.start p.end) (leb p.end (length source.now)) e in
       (leb-true p.start p.end h.0, leb-true p.end (length source.now) h.1)
 
-  pub inside_part : (γ : ℕ) → inside (length source.now) p ≡ true → IsPart source p (record { ref_ptr = (source.ref_ptr.0, p.start + source.ref_ptr.1); ghost_name = γ; now = take (p.end - p.start) (drop p.start source.now) })
+  pub inside_part : inside (length source.now) p ≡ true → IsPart source p (record { ref_ptr = (source.ref_ptr.0, p.start + source.ref_ptr.1); now = take (p.end - p.start) (drop p.start source.now) })
   unfolding part place_of
-  inside_part γ e = record { bytes = rw e; place = rw e }
+  inside_part e = record { bytes = rw e; place = rw e }
 
-  pub outside_part : (γ : ℕ) → inside (length source.now) p ≡ false → IsPart source p (record { ref_ptr = source.ref_ptr; ghost_name = γ; now = take 0 source.now })
+  pub outside_part : inside (length source.now) p ≡ false → IsPart source p (record { ref_ptr = source.ref_ptr; now = take 0 source.now })
   unfolding part place_of
-  outside_part γ e = record { bytes = rw e; place = rw e }
+  outside_part e = record { bytes = rw e; place = rw e }

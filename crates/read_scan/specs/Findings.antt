@@ -139,7 +139,8 @@ told_leftmost (g ∷ gs) f e = go (told gs) (told_leftmost gs) e
         by : (b : Bool) → ltb g.rank h.rank ≡ b → some (cond b h g) ≡ some f → leftmost_of f.rank (g ∷ gs) ≡ some f.place
         by true p e =
             let q : h ≡ f = cc in
-            rw (← q, ne_eqb g.rank h.rank (λ z. omega (arith, ltb-true g.rank h.rank p))) (rest h refl)
+            let l : g.rank < f.rank = ltb-true g.rank f.rank (rw q at p) in
+            rw (ne_eqb g.rank f.rank (λ z. omega arith)) (rw q at (rest h refl))
         by false p e = front cc
 
 -- ---- what a code says

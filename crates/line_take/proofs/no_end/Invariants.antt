@@ -1,0 +1,17 @@
+use Prim.Native.Nat.{◌≤◌, ◌-◌}
+use mathlib.Core.Path.{◌≡◌, refl, sym, ◌∙◌}
+use mathlib.Core.Bool.{◌&&◌}
+use mathlib.Core.Logic.{⊎_elim}
+use native.Mathlib.Omega.{arith}
+use lib.ListN.{length, drop}
+use borrow.Author.Tests.{eq-eqb, ne_eqb}
+use Rattle.texts.specs.Runs.{every}
+use Rattle.lines.specs.Taking.{in_line}
+use Rattle.line_take.proofs.TakingParts.{every_passes, every_fails, every_end}
+use Rattle.line_take.proofs.no_end.Given as goal
+
+abbrev pub invariant-loop-j : goal.invariant-loop-j
+invariant-loop-j l = (l.j ≤ length l.s) × (every in_line l.s ≡ l.none && every in_line (drop l.j l.s))
+
+abbrev pub decreases-loop-j : goal.decreases-loop-j
+decreases-loop-j l = length l.s - l.j

@@ -1,0 +1,58 @@
+-- The invariant: the bytes passed are digits, and v is what they are worth, or too large as they are.
+use Prim.Native.Nat.{◌+◌, ◌-◌, ◌≤◌, min}
+use mathlib.Core.Path.{◌≡◌, refl, sym, ◌∙◌}
+use mathlib.Core.Bool.{true, false}
+use native.Mathlib.Omega.{arith}
+use borrow.Author.Rules.{rules}
+use borrow.Author.Tests.{not-true, not-false}
+use lib.ListN.{length, get_or, take, drop}
+use Rattle.texts.specs.Runs.{run, run_more, run_stop, run_end}
+use Rattle.alphabet.specs.Letters.{digit}
+use Rattle.alphabet.specs.Apart.{digit_bounds}
+use Rattle.alphabet.specs.Classes.{member}
+use Rattle.numerals.specs.Digits.{val_from, val}
+use Rattle.numerals.specs.Reading.{too_large}
+use Rattle.read_number.proofs.DigitLoops.{value_more, value_all}
+use Rattle.read_number.proofs.number_at.Goals as goal
+
+pub loop-i-init : goal.loop-i-init
+unfolding val_from
+loop-i-init c = (omega arith, omega arith, refl)
+
+pub returns-then-not-is_in : goal.returns-then-not-is_in
+unfolding member
+returns-then-not-is_in c =
+    let s = c.args.s.now in
+    let e : digit (get_or s c.loop-i.i 0) ≡ false = sym c.is_in.ensures ∙ c.if-not-is_in.true in
+    c.number_of.ensures ∙ value_all c.args.sign s c.loop-i.i c.loop-i.v _ (c.loop-i.invariant.1 ∙ run_stop digit s c.loop-i.i c.loop-i-test.true e) c.loop-i.invariant.2 c.begins_with_zero-zero.ensures
+
+pub overflow_sub-b : goal.overflow_sub-b
+unfolding member
+overflow_sub-b c =
+    let is_digit : digit (get_or c.args.s.now c.loop-i.i 0) ≡ true = sym c.is_in.ensures ∙ c.if-not-is_in.false in
+    (digit_bounds _ is_digit).0
+
+pub overflow_cast-b : goal.overflow_cast-b
+unfolding member
+overflow_cast-b c =
+    let is_digit : digit (get_or c.args.s.now c.loop-i.i 0) ≡ true = sym c.is_in.ensures ∙ c.if-not-is_in.false in
+    omega (arith, digit_bounds _ is_digit)
+
+pub overflow_add-v : goal.overflow_add-v
+unfolding member
+overflow_add-v c =
+    let is_digit : digit (get_or c.args.s.now c.loop-i.i 0) ≡ true = sym c.is_in.ensures ∙ c.if-not-is_in.false in
+    omega (arith, digit_bounds _ is_digit)
+
+pub loop-i-preserved : goal.loop-i-preserved
+unfolding member
+loop-i-preserved c =
+    let is_digit : digit (get_or c.args.s.now c.loop-i.i 0) ≡ true = sym c.is_in.ensures ∙ c.if-not-is_in.false in
+    let s = c.args.s.now in
+    let h = c.loop-i-test.true in
+    (omega arith, c.loop-i.invariant.1 ∙ run_more digit s c.loop-i.i h is_digit, c.capped-v.ensures ∙ value_more s c.loop-i.i c.loop-i.v h c.loop-i.invariant.2)
+
+pub returns : goal.returns
+returns c =
+    let a = c.args in
+    c.number_of-2.ensures ∙ value_all a.sign a.s.now c.loop-i.i c.loop-i.v _ (c.loop-i.invariant.1 ∙ run_end digit a.s.now c.loop-i.i c.loop-i-test.false) c.loop-i.invariant.2 c.begins_with_zero-zero.ensures
