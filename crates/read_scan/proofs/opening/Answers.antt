@@ -1,0 +1,12 @@
+use mathlib.Core.Path.{refl, sym, ◌∙◌}
+use borrow.Author.Rules.{rules}
+use Rattle.texts.specs.Brackets.{opening}
+use Rattle.read_scan.proofs.opening.Goals as goal
+
+pub returns-then-begins : goal.returns-then-begins
+unfolding opening
+returns-then-begins c = rw (sym c.begins.ensures ∙ c.if-begins.true) refl
+
+pub returns : goal.returns
+unfolding opening
+returns c = rw (sym c.begins.ensures ∙ c.if-begins.false) refl
