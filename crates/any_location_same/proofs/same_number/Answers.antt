@@ -1,0 +1,5 @@
+use Rattle.lang_locations.specs.Equal.{machine_equal}
+use Rattle.any_location_same.proofs.same_number.Goals as goal
+
+pub returns : goal.returns
+returns c = machine_equal _ _ c.ranges.a c.ranges.b

@@ -1,0 +1,42 @@
+-- The words in the crate's order.
+use Prim.Native.Nat.{◌+◌, ◌≤◌}
+use mathlib.Core.Path.{◌≡◌, sym, ◌∙◌}
+use mathlib.Core.Bool.{false}
+use native.Mathlib.Omega.{arith}
+use lib.ListN.{length}
+use Rattle.texts.specs.Ascii.{ascii}
+use Rattle.texts.specs.Words.{starts}
+use Rattle.read_protein_edit.proofs.ProteinEditCases.{behind_room, found_delins, found_del, found_ins, found_dup, found_nothing}
+use borrow.Author.Rules.{rules}
+use Rattle.read_protein_edit.proofs.worded.Goals as goal
+
+pub span-requires : goal.span-requires
+span-requires c =
+    let delins-room : 6 + c.residues_behind-m.result ≤ length c.args.s.now = behind_room (ascii "delins") _ _ c.residues_behind-m.ensures c.if-m-ne0.true in
+    omega (arith, delins-room)
+
+pub returns-then-m-ne0 : goal.returns-then-m-ne0
+returns-then-m-ne0 c = found_delins _ c.args.s.now _ c.residues_behind-m.ensures _ _ c.if-m-ne0.true c.span.ensures c.no_faults.ensures
+
+pub returns-then-begins : goal.returns-then-begins
+returns-then-begins c = found_del _ c.args.s.now _ c.residues_behind-m.ensures c.if-m-ne0.false _ (sym c.begins.ensures ∙ c.if-begins.true) c.no_faults-then-begins.ensures
+
+pub span-requires-then-k-ne0 : goal.span-requires-then-k-ne0
+span-requires-then-k-ne0 c =
+    let ins-room : 3 + c.residues_behind-k.result ≤ length c.args.s.now = behind_room (ascii "ins") _ _ c.residues_behind-k.ensures c.if-k-ne0.true in
+    omega (arith, ins-room)
+
+pub returns-then-k-ne0 : goal.returns-then-k-ne0
+returns-then-k-ne0 c =
+    let no-del : starts (ascii "del") c.args.s.now ≡ false = sym c.begins.ensures ∙ c.if-begins.false in
+    found_ins _ c.args.s.now _ c.residues_behind-m.ensures c.if-m-ne0.false no-del _ c.residues_behind-k.ensures _ _ c.if-k-ne0.true c.span-then-k-ne0.ensures c.no_faults-then-k-ne0.ensures
+
+pub returns-then-begins-2 : goal.returns-then-begins-2
+returns-then-begins-2 c =
+    let no-del : starts (ascii "del") c.args.s.now ≡ false = sym c.begins.ensures ∙ c.if-begins.false in
+    found_dup _ c.args.s.now _ c.residues_behind-m.ensures c.if-m-ne0.false no-del _ c.residues_behind-k.ensures c.if-k-ne0.false _ (sym c.begins-2.ensures ∙ c.if-begins-2.true) c.no_faults-then-begins-2.ensures
+
+pub returns : goal.returns
+returns c =
+    let no-del : starts (ascii "del") c.args.s.now ≡ false = sym c.begins.ensures ∙ c.if-begins.false in
+    found_nothing _ c.args.s.now _ c.residues_behind-m.ensures c.if-m-ne0.false no-del _ c.residues_behind-k.ensures c.if-k-ne0.false (sym c.begins-2.ensures ∙ c.if-begins-2.false)
