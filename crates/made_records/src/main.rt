@@ -138,9 +138,7 @@ fn line<W: Write>(to: &mut W, source: &[u8], v: HgvsVariant) {
 
 fn main(rt: HostRuntime) {
     let source = b"AB_12.3GlyMetArgA?Ter";
-    let mut i: u8 = 0;
-    while i < ALL {
+    for i in 0..ALL {
         line(&mut rt.stdout(), source, made(i));
-        i += 1;
     }
 }
