@@ -15,7 +15,7 @@ use Rattle.promise.specs.Outcome.{limit}
 use Rattle.lines.specs.declared.Line.{Line}
 use Rattle.lines.specs.declared.Progress.{Progress}
 use Rattle.lines.specs.Taking.{no_line}
-use Rattle.lines.specs.Feeding.{step_on, written, WritesLines, WritesLines.ends, WritesLines.reads, WritesLines.steps}
+use Rattle.lines.specs.Feeding.{step_on, written, WritesLines, WritesLines.ends}
 use Rattle.lines.specs.Cuts.{writes_some}
 use Rattle.lines.specs.Steps.{room_for, Stepped}
 use Rattle.line_promise.specs.Computed.{line_answer}
