@@ -10,13 +10,12 @@ use Rattle.std.proofs.Math.Nat.{zero-min}
 use Rattle.std.proofs.Math.ListN.{take, drop}
 use Rattle.std.proofs.lemmas.List.{length-replicate}
 use Rattle.std.proofs.Math.Seq.{append_snoc, drop-drop}
-use Rattle.io.specs.Counts.{clamp_len}
 use Rattle.lent.specs.Put.{put, put_front}
 use Rattle.promise.specs.Outcome.{limit}
 use Rattle.lines.specs.declared.Line.{Line}
 use Rattle.lines.specs.declared.Progress.{Progress}
 use Rattle.lines.specs.Taking.{no_line}
-use Rattle.lines.specs.Feeding.{step_on, written, WritesLines, WritesLines.ends, WritesLines.reads, WritesLines.steps}
+use Rattle.lines.specs.Feeding.{step_on, written, WritesLines, WritesLines.ends}
 use Rattle.lines.specs.Cuts.{writes_some}
 use Rattle.lines.specs.Steps.{room_for, Stepped}
 use Rattle.line_promise.specs.Computed.{line_answer}
@@ -25,7 +24,7 @@ use Rattle.line_runs.specs.declared.Rest.{Rest}
 use Rattle.line_runs.specs.declared.Waiting.{Waiting}
 use Rattle.line_runs.specs.declared.Next.{Next}
 use Rattle.line_runs.specs.declared.Next.TheVariants.{Read, Step, Write, Finish, WriteLast, Stop}
-use Rattle.line_runs.specs.After.{go_on, goes_on, after_read, after_step, after_write, piece_of, left_of, last_answer}
+use Rattle.line_runs.specs.After.{go_on, goes_on, clamp_len, after_read, after_step, after_write, piece_of, left_of, last_answer}
 use Rattle.line_runs.specs.Runs.{Took, Run, Run.begins, Run.reading, Run.stepping, Run.writing, Run.finishing, Run.writing_last, Ends, Ends.stopped, RanFromZeros}
 
 put_taken : (out t : List ℕ) → take (length t) (put out 0 t) ≡ t
