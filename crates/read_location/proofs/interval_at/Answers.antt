@@ -6,8 +6,6 @@ use lib.ListN.{length, take, drop}
 use Rattle.texts.specs.Slices.{tail_room}
 use Rattle.texts.specs.Ascii.{ascii}
 use Rattle.texts.specs.Words.{starts}
-use borrow.Author.Tests.{not-true, not-false}
-use Rattle.record.specs.declared.Kind.{Kind}
 use Rattle.read_position.specs.Told.{PositionTold, position_told}
 use Rattle.read_location.proofs.Intervals.{interval_none, start_le, interval_one, join_le, interval_half, end_le, interval_two}
 use borrow.Author.Rules.{rules}
