@@ -19,12 +19,11 @@ use Rattle.record.specs.declared.Kind.{Kind}
 use Rattle.record.specs.declared.Kind.TheVariants.{Cds, Genome, Mt, Tx, Prot, Rna}
 use Rattle.grammar.specs.Positions as Tree
 use Rattle.grammar.specs.Positions.{Based.based, Genomic.known, Genomic.unknown, Residual.residual, print_position}
-use Rattle.grammar.specs.Shapes.{Interval.one, Interval.two, Mu.certain}
+use Rattle.grammar.specs.Shapes.{Interval.one, Interval.two}
 use Rattle.grammar.specs.Meaning.{sign_of}
 use Rattle.grammar.specs.Numbers.{position_numbers}
 use Rattle.lang.specs.Lang.{within}
 use Rattle.lang.specs.IntervalLang.{parse_interval}
-use Rattle.lang.specs.MuReading as Reading
 use Rattle.read_scan.specs.Accounts.{answered}
 use Rattle.read_scan.specs.declared.Faults.{Faults}
 use Rattle.read_scan.specs.Faults.{faults, first, settled_if, faults_append, settled_only}

@@ -6,8 +6,6 @@ use lib.ListN.{length, take, drop}
 use Rattle.texts.specs.Slices.{tail_room}
 use Rattle.texts.specs.Ascii.{ascii}
 use Rattle.texts.specs.Words.{starts}
-use borrow.Author.Tests.{not-true, not-false}
-use Rattle.record.specs.declared.Kind.{Kind}
 use Rattle.read_position.specs.Told.{PositionTold, position_told}
 use Rattle.read_location.proofs.Intervals.{interval_none, start_le, interval_one, join_le, interval_half, end_le, interval_two}
 use borrow.Author.Rules.{rules}
@@ -78,3 +76,10 @@ returns c =
     let bar : starts (ascii "_") (take (length c.args.s.now - c.in-Found.n) (drop c.in-Found.n c.args.s.now)) ≡ true = sym c.begins.ensures ∙ c.if-not-begins.false in
     let first : PositionTold c.args.kind c.args.at c.args.s.now c.in-Found.start c.in-Found.n c.in-Found.faults = position_told c.args.kind _ _ _ _ _ (sym c.in-Found.is ∙ c.pos_at.ensures) in
     interval_two c.args.kind first bar second _ _ c.leftmost.ensures c.settled_if.ensures
+
+pub overflow_add-result : goal.overflow_add-result
+overflow_add-result c =
+    let second : PositionTold c.args.kind (c.args.at + (c.in-Found.n + 1)) (take (length c.args.s.now - (c.in-Found.n + 1)) (drop (c.in-Found.n + 1) c.args.s.now)) c.in-Found-pos_at.end c.in-Found-pos_at.m c.in-Found-pos_at.later = position_told c.args.kind _ _ _ _ _ (sym c.in-Found-pos_at.is ∙ c.pos_at-2.ensures) in
+    let bar : starts (ascii "_") (take (length c.args.s.now - c.in-Found.n) (drop c.in-Found.n c.args.s.now)) ≡ true = sym c.begins.ensures ∙ c.if-not-begins.false in
+    let first : PositionTold c.args.kind c.args.at c.args.s.now c.in-Found.start c.in-Found.n c.in-Found.faults = position_told c.args.kind _ _ _ _ _ (sym c.in-Found.is ∙ c.pos_at.ensures) in
+    omega (arith, end_le c.args.kind first bar second)

@@ -7,7 +7,6 @@ use borrow.Author.Rules.{rules}
 use Rattle.texts.specs.Slices.{tail, tail_room}
 use Rattle.texts.specs.Brackets.{opening_le}
 use Rattle.read_scan.specs.MuAccounts.{mu_none, mu_le, mu_bare, mu_closed, mu_missing}
-use Rattle.record.specs.declared.Kind.{Kind}
 use Rattle.lang_locations.specs.Languages.{ends_lang}
 use Rattle.read_location.specs.declared.LocationRead.TheVariants.{Nothing, Found}
 use Rattle.read_location.specs.LocationAnswers.{interval_answer}
