@@ -14,12 +14,14 @@ use Rattle.lines.specs.Lines.{line_end}
 use Rattle.lines.specs.Taking.{no_line, begun, held_in}
 use Rattle.lines.specs.Feeding.{finished}
 use Rattle.line_promise.specs.Computed.{line_answer}
-use Rattle.line_promise.specs.Output.{most_bytes, ended_short}
+use Rattle.line_promise.specs.Output.{most_bytes}
+use Rattle.line_promise.proofs.Output.{ended_short}
 use Rattle.line_runs.specs.declared.Rest.{Rest}
 use Rattle.line_runs.specs.declared.Waiting.{Waiting}
 use Rattle.line_runs.specs.declared.Next.{Next}
 use Rattle.line_runs.specs.declared.Next.TheVariants.{Read, Step, Write, Finish, WriteLast, Stop}
-use Rattle.line_runs.specs.After.{go_on, goes_on, clamp_len, after_read, after_step, after_write, left_of, last_answer, Ready, Acted}
+use Rattle.line_runs.specs.After.{go_on, clamp_len, after_read, after_step, after_write, left_of, last_answer, Ready, Acted}
+use Rattle.line_runs.proofs.After.{goes_on}
 use Rattle.line_runs.specs.Runs.{Run, Run.begins, Run.reading, Run.stepping, Run.writing, Run.finishing, Run.writing_last, most_turns, Ends.stopped, Ends.used_up, Ran}
 
 -- ---- within its room

@@ -5,7 +5,7 @@ use Rattle.lent.specs.Put.{put}
 use Rattle.lines.specs.declared.Line.{Line}
 use Rattle.lines.specs.declared.Progress.{Progress}
 use Rattle.lines.specs.Feeding.{writes, finished, clear}
-use Rattle.lines.specs.Steps.{Stepped}
+use Rattle.lines.proofs.Steps.{Stepped}
 use Rattle.line_promise.specs.Computed.{line_answer}
 use Rattle.line_promise.specs.Output.{most_bytes}
 use Rattle.line_runs.specs.declared.Rest.{Rest}
@@ -17,16 +17,6 @@ use Rattle.line_runs.specs.declared.Next.TheVariants.{Read, Step, Write, Finish,
 -- in a piece: where it is used up more is read, else a step is made
 unfoldable pub go_on : ℕ → ℕ → Line → Next
 go_on piece used line = cond (leb piece used) (Read line) (Step (record { piece = piece; used = used; line = line }))
-
--- what holds of both holds of it
-pub goes_on : (P : Next → Type 0) (piece used : ℕ) (line : Line) → (piece ≤ used → P (Read line))
-    → (used < piece → P (Step (record { piece = piece; used = used; line = line }))) → P (go_on piece used line)
-unfolding go_on
-goes_on P piece used line reads steps = go (leb piece used) refl
-  where
-    go : (t : Bool) → leb piece used ≡ t → P (cond t (Read line) (Step (record { piece = piece; used = used; line = line })))
-    go true e = reads (leb-true piece used e)
-    go false e = steps (leb-false piece used e)
 
 -- what a read answers, brought into `0..=most`
 abbrev pub clamp_len : ℤ → ℕ → ℕ

@@ -8,7 +8,7 @@ use lib.Signed.{lt_z}
 use borrow.Author.Tests.{ltb-true}
 use mir.Syntax.{w64}
 use mir.Val.{of_z}
-use Rattle.texts.specs.Tests.{clash}
+use Rattle.texts.proofs.Tests.{clash}
 use Rattle.lines.specs.declared.Line.{Line}
 use Rattle.line_runs.specs.declared.Next.{Next}
 use Rattle.line_runs.specs.declared.Next.TheVariants.{Finish, Stop}

@@ -1,4 +1,4 @@
-use Rattle.texts.specs.Tests.{both_fail, both_next}
+use Rattle.texts.proofs.Tests.{both_fail, both_next}
 use borrow.Author.Rules.{rules}
 use Rattle.plan_na_tests.proofs.is_seq1.Goals as goal
 
