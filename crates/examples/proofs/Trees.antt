@@ -1,5 +1,5 @@
 -- Texts of the language: each has the tree beside it, and no other.
-use Rattle.std.specs.Prelude.{◌≡◌, refl, List, ◌++◌}
+use Rattle.std.specs.Prelude.{◌≡◌, refl}
 use Rattle.std.proofs.Math.Option.{some}
 use Rattle.texts.specs.Ascii.{ascii}
 use Rattle.texts.specs.Tables.{Each}
@@ -8,12 +8,10 @@ use Rattle.record.specs.declared.Kind.TheVariants.{Prot}
 use Rattle.grammar.specs.Bodies.{ProteinBody.met1, ProteinBody.bracketed_met1}
 use Rattle.grammar.specs.Texts.{Text, Text.text, all_letters}
 use Rattle.promise.specs.Reading.{TreeOf}
-use Rattle.examples.specs.Tables.{Row, ab}
+use Rattle.examples.specs.Tables.{ab}
 use Rattle.lang_na_edits.proofs.Alphabet.{alphabets}
 use Rattle.lang_bodies.proofs.Computing.{parser, computing}
 use Rattle.lang_bodies.proofs.Trees.{parsed_tree, tree_parsed}
-use Rattle.examples.specs.Nucleotides.{nucleotides}
-use Rattle.examples.specs.Proteins.{initiations, proteins}
 use Rattle.examples.specs.Trees.{examples, Found, Only}
 
 pub parses : Each Found examples

@@ -1,19 +1,10 @@
 -- Which digits, not only which number: of a text the leftmost number that does not fit, and the leftmost that is not plainly spelled.
-use Rattle.std.specs.Prelude.{ℕ, ◌≡◌, refl, List, [], ◌∷◌}
-use Rattle.std.proofs.Common.{ap}
+use Rattle.std.specs.Prelude.{ℕ, ◌≡◌, List, [], ◌∷◌}
 use Rattle.std.proofs.Math.Option.{Option, none, some}
-use Rattle.texts.specs.Tables.{Each}
-use Rattle.texts.proofs.Tables.{each_so, columns}
-use Rattle.numerals.specs.Digits.{val_from}
 use Rattle.grammar.specs.Texts.{Text, all_letters}
 use Rattle.grammar.specs.Numbers.{misfit, not_plain, numbers_at}
 use Rattle.promise.specs.Reading.{TreeOf}
-use Rattle.lang.specs.Canon.{map_o}
-use Rattle.lang.proofs.Canon.{map_some}
 use Rattle.examples.specs.Tables.{Row, row}
-use Rattle.lang_na_edits.proofs.Alphabet.{alphabets}
-use Rattle.lang_bodies.proofs.Computing.{parser, computing}
-use Rattle.lang_bodies.proofs.Trees.{parsed_tree}
 
 -- the place of what does not fit, and of what is not plain
 abbrev pub places : List (Row (Option ℕ × Option ℕ))

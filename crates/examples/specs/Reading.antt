@@ -1,12 +1,7 @@
 -- What reading answers to a text: the record with the spans of its parts, or the number of a refusal and its place.
-use Rattle.std.specs.Prelude.{ℕ, ◌≡◌, refl, List, [], ◌∷◌, ◌++◌, ℤ, pos, negsuc, replicate}
+use Rattle.std.specs.Prelude.{ℕ, ◌≡◌, List, [], ◌∷◌, ◌++◌, ℤ, pos, negsuc, replicate}
 use Prim.Native.Char.{code}
-use Rattle.std.proofs.Common.{sym, ◌∙◌}
 use Rattle.texts.specs.Ascii.{ascii}
-use Rattle.texts.specs.Tables.{Each}
-use Rattle.texts.proofs.Tables.{each_so, columns}
-use Rattle.numerals.specs.Digits.{val_from}
-use Rattle.numerals.specs.Reading.{or_zero}
 use Rattle.record.specs.declared.Span.{Span}
 use Rattle.record.specs.declared.Part.{Part}
 use Rattle.record.specs.declared.Part.TheVariants as Pt
@@ -35,12 +30,7 @@ use Rattle.record.specs.declared.Refusal.TheVariants.{TooLong, NotInGrammar, Doe
 use Rattle.grammar.specs.Texts.{all_letters}
 use Rattle.promise.specs.Outcome.{read_outcome}
 use Rattle.promise.specs.Reading.{Reads}
-use Rattle.promise.proofs.Unique.{same_read}
 use Rattle.examples.specs.Tables.{Row, row}
-use Rattle.lang_na_edits.proofs.Alphabet.{alphabets}
-use Rattle.lang_bodies.proofs.Computing.{computing}
-use Rattle.lang_bodies.proofs.TextOutcome.{text_outcome}
-use Rattle.lang_bodies.proofs.Outcomes.{outcome_reads, read_outcome_lem}
 
 -- ---- the table
 abbrev pub cut : ℕ → ℕ → Span

@@ -1,13 +1,9 @@
 -- Texts that are not in the language: no well_formed tree prints as them.
-use Rattle.std.specs.Prelude.{ℕ, ◌≡◌, refl, List, [], ◌∷◌, ◌++◌}
+use Rattle.std.specs.Prelude.{ℕ, ◌≡◌, List, [], ◌∷◌, ◌++◌}
 use Rattle.std.proofs.Math.Option.{none}
 use Rattle.texts.specs.Ascii.{ascii}
-use Rattle.texts.specs.Tables.{Each}
-use Rattle.texts.proofs.Tables.{each_so, columns}
 use Rattle.grammar.specs.Texts.{Text, print, Wf, all_letters}
-use Rattle.lang_na_edits.proofs.Alphabet.{alphabets}
-use Rattle.lang_bodies.proofs.Computing.{parser, computing}
-use Rattle.lang_bodies.proofs.Trees.{no_tree}
+use Rattle.lang_bodies.proofs.Computing.{parser}
 
 abbrev pub refused : List (List ℕ)
 refused =

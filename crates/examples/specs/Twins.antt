@@ -1,26 +1,15 @@
 -- Texts that differ in nothing but the spelling of their numbers.
-use Rattle.std.specs.Prelude.{ℕ, ◌≡◌, refl, List, [], ◌∷◌}
-use Rattle.std.proofs.Common.{sym, ◌∙◌}
+use Rattle.std.specs.Prelude.{ℕ, List, [], ◌∷◌}
 use Rattle.std.proofs.Math.Option.{none, some}
 use Rattle.texts.specs.Ascii.{ascii}
-use Rattle.texts.specs.Tables.{Each}
-use Rattle.texts.proofs.Tables.{columns}
-use Rattle.numerals.specs.Digits.{val_from, dec_up_to}
 use Rattle.record.specs.declared.Kind.TheVariants.{Cds, Genome, Prot}
 use Rattle.grammar.specs.Positions.{Mark.bare, Mark.star, OffsetTree.absent, OffsetTree.ahead, OffsetTree.back, Based, Based.based, Genomic.known, Genomic.unknown, Residual.residual}
 use Rattle.grammar.specs.Shapes.{Interval.one, Interval.two, Mu.certain, Mu.uncertain, Both.both}
 use Rattle.grammar.specs.NucleotideEdits.{NaEditTree.del_num_ins, NaEditTree.del, NaEditTree.inv_num}
 use Rattle.grammar.specs.ProteinEdits.{ProteinEditTree.fs, ProteinEditTree.ext, Terminal.ter, Length.counted, Stop.stop, ExtEnd.earlier}
 use Rattle.grammar.specs.Bodies.{ProteinBody.change, ProteinBody.bracketed}
-use Rattle.grammar.specs.Texts.{Text, Text.text, all_letters}
-use Rattle.grammar.specs.Respelled.{respelled}
-use Rattle.lang.specs.Canon.{map_o}
-use Rattle.lang.proofs.Canon.{map_some}
+use Rattle.grammar.specs.Texts.{Text, Text.text}
 use Rattle.examples.specs.Tables.{Row, row, ab}
-use Rattle.lang_na_edits.proofs.Alphabet.{alphabets}
-use Rattle.lang_bodies.proofs.Computing.{parser, computing}
-use Rattle.lang_bodies.proofs.Trees.{parsed_tree}
-use Rattle.lang_bodies.proofs.Spellings.{SpelledOtherwise}
 
 abbrev pub deletion : Based → Text
 deletion p = text ab Cds (both (certain (one p)) (certain (del [])))

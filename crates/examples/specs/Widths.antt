@@ -1,22 +1,8 @@
 -- What measuring the record of a text answers: its width, or none where 7 is answered.
-use Rattle.std.specs.Prelude.{ℕ, ◌≡◌, refl, List, [], ◌∷◌}
+use Rattle.std.specs.Prelude.{ℕ, List, [], ◌∷◌}
 use Rattle.std.proofs.Math.Option.{Option, none, some}
-use Rattle.texts.proofs.Tests.{none_some}
-use Rattle.texts.specs.Tables.{Each}
-use Rattle.texts.proofs.Tables.{each_so, columns}
-use Rattle.numerals.specs.Digits.{val_from}
-use Rattle.numerals.specs.Reading.{or_zero}
-use Rattle.record.specs.declared.HgvsVariant.{HgvsVariant}
-use Rattle.grammar.specs.Texts.{all_letters}
 use Rattle.promise.specs.Outcome.{Outcome, Outcome.given, Outcome.refused}
-use Rattle.promise.specs.Reading.{Reads}
-use Rattle.promise.proofs.Accepted.{accepted_sound}
-use Rattle.promise.specs.Width.{width_between, body_width, Measures, Measures.no_width, Measures.measured}
 use Rattle.examples.specs.Tables.{Row, row}
-use Rattle.lang_na_edits.proofs.Alphabet.{alphabets}
-use Rattle.lang_bodies.proofs.Computing.{computing}
-use Rattle.lang_bodies.proofs.TextOutcome.{text_outcome}
-use Rattle.lang_bodies.proofs.Outcomes.{outcome_reads}
 
 -- ---- the table
 abbrev pub widths : List (Row (Option ℕ))

@@ -7,7 +7,7 @@ use Rattle.std.proofs.Math.Bool.{true, false, cond}
 use mathlib.Core.List.{List, [], ◌∷◌, ◌++◌}
 use Rattle.std.proofs.Math.ListN.{length}
 use Rattle.texts.proofs.Tests.{clash}
-use Rattle.frames.specs.Taking.{fresh, Standing, closes, with_state, after_byte, Took, one_more, behind, takes}
+use Rattle.frames.specs.Taking.{Standing, closes, after_byte, Took, one_more, behind, takes}
 use Rattle.frames.specs.Calls.{then_more, restarted, passes, after_call}
 
 -- a call with any front of the stream leaves the rest of the stream to the next

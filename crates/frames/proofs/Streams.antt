@@ -12,7 +12,7 @@ use Rattle.lines.specs.Lines.{line_end}
 use Rattle.lines.specs.Taking.{in_line}
 use Rattle.lines.proofs.HeldLines.{held_fits}
 use Rattle.frames.specs.Frames.{digit_value, frame, joined, text_of, Lines, Lines.nothing, Lines.line, Stream, Stream.unfinished, Stream.text}
-use Rattle.frames.specs.Taking.{fresh, Standing, closes, spoiled, halved, added, with_state, digit_taken, after_byte, Took, behind, takes, gathered}
+use Rattle.frames.specs.Taking.{Standing, closes, spoiled, halved, added, with_state, digit_taken, after_byte, Took, behind, takes, gathered}
 use Rattle.frames.specs.Calls.{Passed, then_more, passes, after_call}
 use Rattle.frames.proofs.Calls.{call_passes, same_used}
 use Rattle.frames.proofs.Bytes.{after_end}

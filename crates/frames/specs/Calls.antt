@@ -1,13 +1,8 @@
 -- A stream that comes by calls: where it stands at each empty line that ends a text, and at the end.
-use Prim.Native.Nat.{ℕ, suc, ◌≤◌}
-use Rattle.std.specs.Prelude.{◌≡◌, Bool, drop}
-use Rattle.std.proofs.Math.Path.{refl, ap}
-use Rattle.std.proofs.Common.{◌∙◌, arith}
-use Rattle.std.proofs.Math.Bool.{true, false, cond}
-use mathlib.Core.List.{List, [], ◌∷◌, ◌++◌}
-use Rattle.std.proofs.Math.ListN.{length}
-use Rattle.texts.proofs.Tests.{clash}
-use Rattle.frames.specs.Taking.{fresh, Standing, closes, with_state, after_byte, Took, one_more, behind, takes}
+use Prim.Native.Nat.{ℕ}
+use Rattle.std.proofs.Math.Bool.{cond}
+use mathlib.Core.List.{List, [], ◌∷◌}
+use Rattle.frames.specs.Taking.{fresh, Standing, closes, with_state, after_byte, Took}
 
 pub record Passed : Type 0 where
   pub texts : List Standing

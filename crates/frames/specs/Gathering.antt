@@ -1,22 +1,11 @@
 -- What is gathered of a line: its bytes where it is a frame, and nothing where it is bad.
-use Rattle.std.specs.Prelude.{ℕ, ◌+◌, ◌*◌, ◌%◌, ◌≤◌, ◌<◌, ◌≡◌, Bool, not, ◌||◌, leb, eqb, length, take, set}
-use Rattle.std.proofs.Math.Path.{refl}
-use Rattle.std.proofs.Common.{sym, ap, ◌∙◌, arith, zero-add, add-one, length-append, length-take-le, take-suc-set}
-use Rattle.std.proofs.Math.Bool.{true, false, cond}
-use mathlib.Core.List.{List, [], ◌∷◌, ◌++◌, foldl, append-nil}
-use Rattle.std.proofs.Math.Option.{Option, none, some, map}
-use Rattle.std.proofs.Math.Dec.{ltb}
-use Rattle.std.proofs.Math.Seq.{append_snoc}
-use borrow.Author.Tests.{le-leb, lt-leb, leb-true, leb-false, le-ltb, ltb-true, ltb-false, eq-eqb, ne_eqb, eqb-false, not-true}
-use Rattle.alphabet.specs.Cells.{within}
-use Rattle.texts.proofs.Tests.{none_some, and-true, left_or, right_or}
-use Rattle.texts.specs.Runs.{every, Some}
-use Rattle.lines.specs.Lines.{line_end, Held, Held.whole, Held.too_long, held}
-use Rattle.lines.specs.Taking.{in_line}
-use Rattle.lines.proofs.HeldLines.{held_fits, held_long, fits_held, long_held}
-use Rattle.frames.specs.Frames.{digit_value, two_digits, and_more, bytes_of, of_size, frame, joined}
+use Rattle.std.specs.Prelude.{ℕ, ◌≡◌, take}
+use Rattle.std.proofs.Math.Bool.{false, cond}
+use mathlib.Core.List.{List}
+use Rattle.std.proofs.Math.Option.{Option, map}
+use Rattle.lines.specs.Lines.{Held, Held.whole, Held.too_long, held}
 use Rattle.frames.specs.Room.{InRoom}
-use Rattle.frames.specs.Taking.{Standing, line_closed, spoiled, halved, added, with_state, digit_taken, after_byte, gathered}
+use Rattle.frames.specs.Taking.{Standing, line_closed, with_state, gathered}
 
 -- a line that is ended
 abbrev pub ended : Standing → Standing

@@ -1,15 +1,7 @@
 -- How a text is sent: in frames of 1 to 32 bytes, two digits a byte, each of either case. However it is split, its lines have its bytes.
-use Rattle.std.specs.Prelude.{ℕ, ◌+◌, ◌*◌, ◌≤◌, ◌<◌, ◌≡◌, refl, true, List, [], ◌∷◌, ◌++◌, length}
+use Rattle.std.specs.Prelude.{ℕ, ◌+◌, ◌*◌, ◌≤◌, ◌<◌, List, [], ◌∷◌, ◌++◌, length}
 use Prim.Native.Char.{code}
-use Rattle.std.proofs.Common.{ap, arith, le-leb, ne_eqb}
-use Rattle.std.proofs.Math.Option.{some}
-use Rattle.std.proofs.lemmas.Bool.{lt-leb}
-use Rattle.alphabet.specs.Cells.{within}
-use Rattle.texts.proofs.Tests.{true_and}
-use Rattle.texts.specs.Runs.{every}
 use Rattle.lines.specs.Lines.{line_end}
-use Rattle.lines.specs.Taking.{in_line}
-use Rattle.frames.specs.Frames.{digit_value, bytes_of, frame, text_of, Lines, Lines.nothing, Lines.line}
 
 pub data Digit : ℕ → ℕ → Type 0 where
   decimal : (v : ℕ) → v < 10 → Digit (code "0" + v) v

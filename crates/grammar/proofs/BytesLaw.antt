@@ -1,5 +1,5 @@
 -- Which bytes a body and a text have: letters, digits and a few signs. So a `;`, `[` or `]` is in no body, and bytes of 128 and above are in no text (document 01, "The header").
-use Rattle.std.specs.Prelude.{ℕ, ◌≡◌, List, [], ◌∷◌, ◌++◌, Bool, true, not, ◌||◌}
+use Rattle.std.specs.Prelude.{ℕ, ◌≡◌, List, [], ◌∷◌, ◌++◌, Bool, true, not}
 use Rattle.std.proofs.Math.Path.{refl}
 use Rattle.std.proofs.Math.Option.{Option, none, some}
 use Rattle.std.proofs.Common.{⊎_elim}

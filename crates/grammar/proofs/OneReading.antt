@@ -1,6 +1,5 @@
 -- Which texts read as a value, and the best of them.
 use Rattle.std.specs.Prelude.{ℕ, ◌≡◌, List}
-use Rattle.texts.specs.Best.{Best}
 use Rattle.texts.proofs.Best.{best_antisym}
 use Rattle.grammar.specs.Reads.{BestText}
 

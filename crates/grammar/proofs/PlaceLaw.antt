@@ -8,7 +8,6 @@ use Rattle.std.proofs.Math.Option.{some}
 use Rattle.texts.proofs.Tests.{clash, none_some}
 use Rattle.numerals.specs.declared.Sign.{Sign}
 use Rattle.record.specs.declared.Kind.{Kind}
-use Rattle.grammar.specs.Positions.{Digits}
 use Rattle.grammar.specs.Texts.{Text, print, Wf}
 use Rattle.grammar.specs.Numbers.{Numeral, Numeral.numeral, leftmost_failing, numbers_at}
 use Rattle.grammar.specs.Standing.{Stands}

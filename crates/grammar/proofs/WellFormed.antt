@@ -1,10 +1,7 @@
 -- Some trees that are well formed, and some that are not.
-use Rattle.std.specs.Prelude.{ℕ, ◌≡◌, refl, List, [], ◌∷◌, Bool, true, false, ◌&&◌, leb, length}
-use Prim.Native.Char.{code}
-use Prim.Native.String.{String}
-use Rattle.std.proofs.Math.Option.{none, some}
+use Rattle.std.specs.Prelude.{ℕ, ◌≡◌, refl, List, Bool, true, false, ◌&&◌, leb, length}
+use Rattle.std.proofs.Math.Option.{some}
 use Rattle.std.proofs.Common.{le-leb, leb-true}
-use Rattle.texts.specs.Ascii.{ascii}
 use Rattle.texts.proofs.Tests.{and-true, true_and, clash}
 use Rattle.texts.specs.Runs.{every, Some}
 use Rattle.texts.specs.Words.{same}
@@ -13,16 +10,13 @@ use Rattle.texts.specs.Tables.{Each}
 use Rattle.alphabet.specs.Letters.{letter, digit, alphanumeric, nucleotide, residue}
 use Rattle.residue_rows.specs.Rows.{rows}
 use Rattle.residue.specs.Residues.{one_of, is_three, is_one, is_residue, threes, is_residues}
-use Rattle.record.specs.declared.Kind.{Kind}
-use Rattle.record.specs.declared.Kind.TheVariants.{Cds, Genome, Mt, Tx, Prot, Rna}
-use Rattle.grammar.specs.Header.{Accession.accession, HeaderTree, HeaderTree.header, WfHeader}
-use Rattle.grammar.specs.Positions.{Mark.bare, Mark.plus, Mark.minus, Mark.star, OffsetTree.absent, OffsetTree.ahead, OffsetTree.back, Based.based, Genomic.known, Genomic.unknown, Residual.residual, PositionTree, WfPosition}
-use Rattle.grammar.specs.Shapes.{Interval.one, Mu.certain, Mu.uncertain, Both.both}
-use Rattle.grammar.specs.NucleotideEdits.{NaEditTree, NaEditTree.equal, NaEditTree.swap, NaEditTree.del_ins, NaEditTree.del_num_ins, NaEditTree.del_num, NaEditTree.del, NaEditTree.ins, NaEditTree.dup, NaEditTree.inv_num, NaEditTree.inv, WfNaEdit}
+use Rattle.grammar.specs.Header.{WfHeader}
+use Rattle.grammar.specs.Positions.{Mark.bare}
+use Rattle.grammar.specs.NucleotideEdits.{WfNaEdit}
 use Rattle.grammar.specs.ProteinEdits as P
-use Rattle.grammar.specs.ProteinEdits.{ProteinEditTree, ProteinEditTree.subst, ProteinEditTree.subst_unknown, ProteinEditTree.fs, ProteinEditTree.ext, Terminal.ter, Terminal.x, Length.counted, Length.unsaid, Stop.stop, ExtEnd.nothing, ExtEnd.later, ExtEnd.earlier, WfProteinEdit}
+use Rattle.grammar.specs.ProteinEdits.{WfProteinEdit}
 use Rattle.grammar.specs.Bodies as B
-use Rattle.grammar.specs.Bodies.{Ends, ProteinBody, ProteinBody.met1, ProteinBody.bracketed_met1, ProteinBody.no_protein_uncertain, ProteinBody.no_protein, ProteinBody.no_change_uncertain, ProteinBody.no_change, ProteinBody.change, ProteinBody.bracketed, WfProteinBody}
+use Rattle.grammar.specs.Bodies.{WfProteinBody}
 use Rattle.grammar.specs.WellFormed.{Not, edits, misformed_edits, WfPlaced, positions, misformed_positions, headers, misformed_headers, protein_edits, misformed_protein_edits, exact_bodies, bodies, misformed_bodies}
 
 -- one or more bytes that pass a test, by computing it

@@ -1,15 +1,10 @@
 -- Some trees: the texts that they print as, what they mean, and their numbers with their places.
-use Rattle.std.specs.Prelude.{ℕ, refl, List, [], ◌∷◌, ℤ, pos, negsuc}
+use Rattle.std.specs.Prelude.{ℕ, List, [], ◌∷◌, ℤ, pos, negsuc}
 use Prim.Native.Char.{code}
 use Prim.Native.String.{String}
 use Rattle.std.proofs.Math.Option.{Option, none, some}
 use Rattle.texts.specs.Ascii.{ascii}
-use Rattle.texts.specs.Words.{starts}
-use Rattle.texts.specs.Tables.{Each}
-use Rattle.texts.proofs.Tables.{Agree, agreed}
 use Rattle.numerals.specs.declared.Sign.TheVariants.{Unsigned, Plus, Minus, Negated}
-use Rattle.numerals.specs.Digits.{val_from}
-use Rattle.numerals.specs.Reading.{or_zero}
 use Rattle.record.specs.declared.Kind.{Kind}
 use Rattle.record.specs.declared.Kind.TheVariants.{Cds, Genome, Mt, Tx, Prot, Rna}
 use Rattle.record.specs.declared.Offset.TheVariants.{Absent, By}

@@ -1,7 +1,6 @@
 -- Which texts read as a value, and the best of them.
 use Rattle.std.specs.Prelude.{ℕ, ◌≡◌, List}
 use Rattle.texts.specs.Best.{Best}
-use Rattle.texts.proofs.Best.{best_antisym}
 
 module _ {Tree Value : Type 0} (print : Tree → List ℕ) (Wf : Tree → Type 0) (Fits : Tree → Type 0) (meaning : Tree → Value) where
   -- a well_formed tree, all of whose numbers fit, prints as t and means v

@@ -1,12 +1,12 @@
 -- The canonical text of one value behind another.
 use Rattle.std.specs.Prelude.{ℕ, ◌≡◌, List, ◌++◌}
-use Rattle.std.proofs.Math.Option.{Option, some}
+use Rattle.std.proofs.Math.Option.{some}
 use Rattle.texts.proofs.Best.{best_append}
 use Rattle.grammar.specs.Shapes.{Both, Both.both, WfBoth}
 use Rattle.grammar.specs.Meaning.{map_both}
 use Rattle.lang.specs.Lang.{Lang}
 use Rattle.lang.proofs.BothLang.{behind}
-use Rattle.lang.specs.Canon.{Canon, Right, Covered, both_o}
+use Rattle.lang.specs.Canon.{Canon, Right, Covered}
 use Rattle.lang.proofs.Canon.{both_some}
 use Rattle.lang.specs.BothCanon.{canon_both}
 

@@ -2,9 +2,7 @@
 use Rattle.std.specs.Prelude.{ℕ, ◌≡◌, refl, List}
 use Rattle.std.proofs.Common.{sym, ap, ◌∙◌}
 use Rattle.std.proofs.Math.Option.{Option, none, some}
-use Rattle.texts.specs.Best.{Best}
 use Rattle.texts.proofs.Tests.{none_some}
-use Rattle.grammar.specs.Reads.{ReadsAs, BestText}
 use Rattle.lang.specs.Lang.{Lang}
 use Rattle.lang.specs.Canon.{Canon, ReadsAsOf, BestTextOf, map_o, both_o, if_some}
 

@@ -1,5 +1,5 @@
 -- What the combinators make of a small language, of one letter A or C.
-use Rattle.std.specs.Prelude.{ℕ, ◌≡◌, refl, List, [], ◌∷◌, Bool, true, false, cond, ◌||◌, eqb}
+use Rattle.std.specs.Prelude.{ℕ, ◌≡◌, refl, List, [], ◌∷◌, true, cond, eqb}
 use Prim.Native.Char.{code}
 use Rattle.std.proofs.Math.Option.{Option, none, some}
 use Rattle.std.proofs.Common.{eq-eqb, eqb-true}
@@ -17,7 +17,6 @@ use Rattle.lang.specs.MuLang.{parse_mu}
 use Rattle.lang.specs.BothLang.{parse_both}
 use Rattle.lang.specs.IntervalLang.{parse_interval}
 use Rattle.lang.specs.Canon.{Canon, Right}
-use Rattle.lang.specs.MuCanon.{settled_mu}
 use Rattle.lang.specs.IntervalCanon.{canon_interval}
 use Rattle.lang.specs.Examples.{is_letter, one_byte, parse_letter, settled}
 

@@ -1,6 +1,6 @@
 -- The canonical text of an interval: one position where both ends are one.
-use Rattle.std.specs.Prelude.{ℕ, ◌<◌, ◌≡◌, refl, List, ◌++◌, Bool, true, false, cond, length}
-use Rattle.std.proofs.Math.Option.{Option, some}
+use Rattle.std.specs.Prelude.{ℕ, ◌<◌, ◌≡◌, refl, List, ◌++◌, Bool, true, false, length}
+use Rattle.std.proofs.Math.Option.{some}
 use Rattle.std.proofs.Common.{arith, length-append}
 use Rattle.texts.specs.Ascii.{ascii}
 use Rattle.texts.specs.Best.{Best.shorter}
@@ -9,7 +9,7 @@ use Rattle.grammar.specs.Shapes.{Interval, Interval.one, Interval.two, Both, Bot
 use Rattle.grammar.specs.Meaning.{meaning_interval}
 use Rattle.lang.specs.Lang.{Lang}
 use Rattle.lang.proofs.IntervalLang.{interval}
-use Rattle.lang.specs.Canon.{Canon, Right, Covered, map_o, both_o}
+use Rattle.lang.specs.Canon.{Canon, Right, Covered}
 use Rattle.lang.proofs.Canon.{map_some, both_some}
 use Rattle.lang.specs.IntervalCanon.{canon_interval}
 

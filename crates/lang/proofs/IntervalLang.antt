@@ -1,6 +1,6 @@
 -- One position, or two with `_` between them.
 use Prim.Native.Nat.{ℕ}
-use Rattle.std.specs.Prelude.{◌≡◌, Bool, false, cond, length, drop}
+use Rattle.std.specs.Prelude.{◌≡◌, Bool, false, drop}
 use Rattle.std.proofs.Math.Path.{refl, ap}
 use Rattle.std.proofs.Common.{◌∙◌}
 use mathlib.Core.List.{List, ◌++◌, append_assoc}

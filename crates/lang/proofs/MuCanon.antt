@@ -1,7 +1,7 @@
 -- The canonical text of what is certain or uncertain.
-use Rattle.std.specs.Prelude.{◌≡◌, Bool}
+use Rattle.std.specs.Prelude.{◌≡◌}
 use Rattle.std.proofs.Common.{ap}
-use Rattle.std.proofs.Math.Option.{Option, some}
+use Rattle.std.proofs.Math.Option.{some}
 use Rattle.texts.specs.Ascii.{ascii}
 use Rattle.texts.proofs.Best.{best_append, best_behind, best_refl}
 use Rattle.grammar.specs.Shapes.{Mu, Mu.certain, Mu.uncertain, WfMu}
@@ -9,7 +9,7 @@ use Rattle.grammar.specs.Meaning.{map_mu}
 use Rattle.lang.specs.Lang.{Lang}
 use Rattle.lang.specs.MuLang.{Brackets}
 use Rattle.lang.proofs.MuLang.{mu}
-use Rattle.lang.specs.Canon.{Canon, Right, Covered, map_o}
+use Rattle.lang.specs.Canon.{Canon, Right, Covered}
 use Rattle.lang.proofs.Canon.{map_some}
 use Rattle.lang.specs.MuCanon.{canon_mu}
 

@@ -1,11 +1,9 @@
 -- The canonical text of one value behind another.
-use Rattle.std.specs.Prelude.{ℕ, ◌≡◌, List, ◌++◌}
-use Rattle.std.proofs.Math.Option.{Option, some}
-use Rattle.texts.proofs.Best.{best_append}
-use Rattle.grammar.specs.Shapes.{Both, Both.both, WfBoth}
-use Rattle.grammar.specs.Meaning.{map_both}
+use Rattle.std.specs.Prelude.{ℕ, List, ◌++◌}
+use Rattle.std.proofs.Math.Option.{Option}
+use Rattle.grammar.specs.Shapes.{Both, Both.both}
 use Rattle.lang.specs.Lang.{Lang}
-use Rattle.lang.specs.Canon.{Canon, Right, Covered, both_o}
+use Rattle.lang.specs.Canon.{Canon, both_o}
 
 module _ (L M : Lang) (follows : (b : M.Tree) (r : List ℕ) → M.Wf b → M.Follows r → L.Follows (M.print b ++ r)) (C : Canon L) (D : Canon M) where
   abbrev pub canon_both : Both C.Value D.Value → Option (Both L.Tree M.Tree)

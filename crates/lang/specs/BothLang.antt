@@ -1,14 +1,10 @@
 -- One language behind another.
 use Prim.Native.Nat.{ℕ}
-use Rattle.std.specs.Prelude.{◌≡◌, length, drop}
-use Rattle.std.proofs.Math.Path.{refl, ap}
-use Rattle.std.proofs.Common.{◌∙◌}
-use mathlib.Core.List.{List, ◌++◌, append_assoc}
+use Rattle.std.specs.Prelude.{length, drop}
+use mathlib.Core.List.{List}
 use Rattle.std.proofs.Math.Option.{Option, none, some}
-use Rattle.std.proofs.Math.Seq.{drop-append_seam}
-use Rattle.texts.proofs.Tests.{none_some}
-use Rattle.grammar.specs.Shapes.{Both, Both.both, print_both, WfBoth}
-use Rattle.lang.specs.Lang.{Front, Lang}
+use Rattle.grammar.specs.Shapes.{Both, Both.both}
+use Rattle.lang.specs.Lang.{Lang}
 
 module _ (L M : Lang) where
   abbrev pub second : L.Tree → Option M.Tree → Option (Both L.Tree M.Tree)

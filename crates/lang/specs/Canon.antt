@@ -1,9 +1,7 @@
 -- Values of a language's trees, and the tree whose text is to be written for a value: it means the value, and no text of the value is better.
-use Rattle.std.specs.Prelude.{ℕ, ◌≡◌, refl, List}
-use Rattle.std.proofs.Common.{sym, ap, ◌∙◌}
+use Rattle.std.specs.Prelude.{ℕ, ◌≡◌, List}
 use Rattle.std.proofs.Math.Option.{Option, none, some}
 use Rattle.texts.specs.Best.{Best}
-use Rattle.texts.proofs.Tests.{none_some}
 use Rattle.grammar.specs.Reads.{ReadsAs, BestText}
 use Rattle.lang.specs.Lang.{Lang}
 

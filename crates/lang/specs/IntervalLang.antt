@@ -1,18 +1,12 @@
 -- One position, or two with `_` between them.
 use Prim.Native.Nat.{ℕ}
-use Rattle.std.specs.Prelude.{◌≡◌, Bool, false, cond, length, drop}
-use Rattle.std.proofs.Math.Path.{refl, ap}
-use Rattle.std.proofs.Common.{◌∙◌}
-use mathlib.Core.List.{List, ◌++◌, append_assoc}
+use Rattle.std.specs.Prelude.{◌≡◌, false, cond, length, drop}
+use mathlib.Core.List.{List}
 use Rattle.std.proofs.Math.Option.{Option, none, some}
-use Rattle.std.proofs.Math.Bool.{true}
-use Rattle.std.proofs.Math.Seq.{drop-append_seam}
 use Rattle.texts.specs.Ascii.{ascii}
-use Rattle.texts.proofs.Tests.{none_some}
 use Rattle.texts.specs.Words.{starts}
-use Rattle.texts.proofs.Words.{starts_split}
-use Rattle.grammar.specs.Shapes.{Interval, Interval.one, Interval.two, print_interval, WfInterval}
-use Rattle.lang.specs.Lang.{Front, Lang}
+use Rattle.grammar.specs.Shapes.{Interval, Interval.one, Interval.two}
+use Rattle.lang.specs.Lang.{Lang}
 
 module _ (L : Lang) where
   abbrev pub pair : L.Tree → Option L.Tree → Option (Interval L.Tree)

@@ -1,8 +1,6 @@
 -- A language: trees with a printer, which are well formed, what may follow, and a parser of the front of a text that is sound and complete for them.
-use Rattle.std.specs.Prelude.{ℕ, ◌≤◌, ◌≡◌, refl, List, [], ◌++◌, length, drop}
-use Rattle.std.proofs.Common.{sym, ap, ◌∙◌, append-nil, arith, length-append, drop_at}
+use Rattle.std.specs.Prelude.{ℕ, ◌≡◌, List, ◌++◌}
 use Rattle.std.proofs.Math.Option.{Option, some}
-use Rattle.std.proofs.Math.Seq.{drop-append_seam}
 
 -- t's text stands at the front of s
 pub record Front {Tree : Type 0} (print : Tree → List ℕ) (Wf : Tree → Type 0) (s : List ℕ) (t : Tree) : Type 0 where

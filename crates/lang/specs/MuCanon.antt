@@ -1,14 +1,10 @@
 -- The canonical text of what is certain or uncertain.
-use Rattle.std.specs.Prelude.{◌≡◌, Bool}
-use Rattle.std.proofs.Common.{ap}
-use Rattle.std.proofs.Math.Option.{Option, some}
-use Rattle.texts.specs.Ascii.{ascii}
-use Rattle.texts.proofs.Best.{best_append, best_behind, best_refl}
-use Rattle.grammar.specs.Shapes.{Mu, Mu.certain, Mu.uncertain, WfMu}
-use Rattle.grammar.specs.Meaning.{map_mu}
+use Rattle.std.specs.Prelude.{Bool}
+use Rattle.std.proofs.Math.Option.{Option}
+use Rattle.grammar.specs.Shapes.{Mu, Mu.certain, Mu.uncertain}
 use Rattle.lang.specs.Lang.{Lang}
 use Rattle.lang.specs.MuLang.{Brackets}
-use Rattle.lang.specs.Canon.{Canon, Right, Covered, map_o}
+use Rattle.lang.specs.Canon.{Canon, map_o}
 
 -- of what stands in brackets or not
 abbrev pub settled_mu : {A : Type 0} → (A → Bool) → Mu A → Bool

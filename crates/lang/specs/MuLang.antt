@@ -1,19 +1,14 @@
 -- A part of a text that is certain, or uncertain when in round brackets.
 use Prim.Native.Nat.{ℕ}
-use Rattle.std.specs.Prelude.{◌≡◌, Bool, length}
-use Rattle.std.proofs.Math.Path.{refl, ap}
-use Rattle.std.proofs.Common.{◌∙◌}
-use mathlib.Core.List.{List, ◌++◌, append_assoc}
+use Rattle.std.specs.Prelude.{◌≡◌, length}
+use mathlib.Core.List.{List, ◌++◌}
 use Rattle.std.proofs.Math.Option.{Option, none, some}
-use Rattle.std.proofs.Math.Bool.{true, false, cond}
+use Rattle.std.proofs.Math.Bool.{false, cond}
 use Rattle.std.proofs.Math.ListN.{drop}
-use Rattle.std.proofs.Math.Seq.{drop-append_seam}
 use Rattle.texts.specs.Ascii.{ascii}
-use Rattle.texts.proofs.Tests.{none_some}
 use Rattle.texts.specs.Words.{starts}
-use Rattle.texts.proofs.Words.{starts_split}
-use Rattle.grammar.specs.Shapes.{Mu, Mu.certain, Mu.uncertain, print_mu, WfMu}
-use Rattle.lang.specs.Lang.{Front, Lang}
+use Rattle.grammar.specs.Shapes.{Mu, Mu.certain, Mu.uncertain}
+use Rattle.lang.specs.Lang.{Lang}
 
 module _ (L : Lang) where
   abbrev pub bare : Option L.Tree → Option (Mu L.Tree)

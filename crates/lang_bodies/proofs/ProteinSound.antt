@@ -14,7 +14,7 @@ use Rattle.alphabet.proofs.Apart.{among_none}
 use Rattle.record.specs.declared.Kind.TheVariants.{Prot}
 use Rattle.grammar.specs.Shapes.{Mu, Mu.certain, Mu.uncertain, Both.both, print_mu, WfMu}
 use Rattle.grammar.specs.ProteinEdits.{ProteinEditTree, print_protein_edit, WfProteinEdit}
-use Rattle.grammar.specs.Bodies.{Ends, print_ends, WfEnds, WfLocation, ProteinBody, ProteinBody.met1, ProteinBody.bracketed_met1, ProteinBody.no_protein_uncertain, ProteinBody.no_protein, ProteinBody.no_change_uncertain, ProteinBody.no_change, ProteinBody.unknown, ProteinBody.change, ProteinBody.bracketed, print_protein_body, WfProteinBody, NotMet1}
+use Rattle.grammar.specs.Bodies.{Ends, print_ends, WfEnds, ProteinBody, ProteinBody.met1, ProteinBody.bracketed_met1, ProteinBody.no_protein_uncertain, ProteinBody.no_protein, ProteinBody.no_change_uncertain, ProteinBody.no_change, ProteinBody.unknown, ProteinBody.change, ProteinBody.bracketed, print_protein_body, WfProteinBody, NotMet1}
 use Rattle.lang.specs.Choice.{or_next}
 use Rattle.lang.specs.Lang.{Front}
 use Rattle.lang.proofs.Lang.{rest_is}

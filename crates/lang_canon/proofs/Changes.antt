@@ -1,14 +1,11 @@
 -- What is written for a value is the canonical text of a changed value: how each wording changes it.
-use Rattle.std.specs.Prelude.{◌≡◌, refl, [], cond}
+use Rattle.std.specs.Prelude.{◌≡◌, refl}
 use Rattle.std.proofs.Common.{ap}
-use Rattle.texts.specs.Words.{same, one_each}
 use Rattle.record.specs.declared.Kind.{Kind}
 use Rattle.record.specs.declared.Kind.TheVariants.{Cds, Genome, Mt, Tx, Prot, Rna}
-use Rattle.record.specs.declared.Wording.{Wording}
-use Rattle.record.specs.declared.Wording.TheVariants.{Shortest, NoRef}
+use Rattle.record.specs.declared.Wording.TheVariants.{Shortest}
 use Rattle.grammar.specs.Shapes.{Mu.certain, Mu.uncertain, Both.both}
-use Rattle.grammar.specs.Values.{NaEditV, NaEditV.ref_alt, NaEditV.num_alt, NaEditV.del_ref, NaEditV.del_num, NaEditV.ins_v, NaEditV.dup_v, NaEditV.inv_ref, NaEditV.inv_num, NaBodyV, ProteinBodyV, BodyV, Value, Value.value}
-use Rattle.grammar.specs.Meaning.{map_mu}
+use Rattle.grammar.specs.Values.{NaBodyV, BodyV, Value, Value.value}
 use Rattle.lang_canon.specs.Changes.{changed_na_body, changed_body, changed}
 
 -- ---- shortest writing changes nothing

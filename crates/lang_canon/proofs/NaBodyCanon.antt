@@ -5,15 +5,9 @@ use Rattle.grammar.specs.Shapes.{Both.both}
 use Rattle.grammar.specs.Bodies.{print_location, NaBody}
 use Rattle.grammar.specs.Numbers.{Faultless, ends_numbers, mu_numbers, na_edit_numbers, na_body_numbers}
 use Rattle.grammar.proofs.NumberLaws.{faultless_both, both_faultless}
-use Rattle.lang.specs.Canon.{Canon}
-use Rattle.lang.proofs.BothCanon.{both_canon}
-use Rattle.lang_locations.proofs.Languages.{location_lang}
-use Rattle.lang_locations.proofs.Canonical.{location_canon}
 use Rattle.lang_locations.proofs.Fits.{location_fits, fits_location}
 use Rattle.lang_na_edits.specs.Alphabet.{Alphabet}
-use Rattle.lang_na_edits.proofs.Bracketing.{mu_na_edit_lang}
-use Rattle.lang_na_edits.proofs.Canonical.{mu_na_edit_canon, mu_fits, fits_mu}
-use Rattle.lang_bodies.proofs.NaBodies.{na_follows, na_body_lang}
+use Rattle.lang_na_edits.proofs.Canonical.{mu_fits, fits_mu}
 use Rattle.lang_canon.specs.NaBodyCanon.{na_body_canon}
 
 module _ (na : ℕ → Bool) (al : Alphabet na) (k : Kind) where

@@ -1,7 +1,7 @@
 -- The canonical text of a protein body. Location and edit are composed; where that would give one of the barred texts `Met1?` and `(Met1?)`, the text with `Met01` is best.
-use Rattle.std.specs.Prelude.{ℕ, ◌+◌, ◌≤◌, ◌<◌, ◌≡◌, refl, List, ◌++◌, Bool, true, false, cond, ◌&&◌, pos, length, get_or}
+use Rattle.std.specs.Prelude.{ℕ, ◌+◌, ◌≤◌, ◌<◌, ◌≡◌, refl, List, ◌++◌, Bool, true, false, ◌&&◌, pos, length, get_or}
 use Rattle.std.proofs.Common.{sym, ap, ◌∙◌, arith, length-append}
-use Rattle.std.proofs.Math.Option.{Option, none, some}
+use Rattle.std.proofs.Math.Option.{none, some}
 use Rattle.texts.specs.Ascii.{ascii}
 use Rattle.texts.proofs.Tests.{clash, and-true}
 use Rattle.texts.specs.Runs.{every}
@@ -22,13 +22,13 @@ use Rattle.grammar.specs.Shapes.{Interval.one, Interval.two, Mu, Mu.certain, Mu.
 use Rattle.grammar.specs.Positions.{Residual.residual, Digits}
 use Rattle.grammar.specs.ProteinEdits.{ProteinEditTree, ProteinEditTree.subst, ProteinEditTree.subst_unknown, ProteinEditTree.equal, ProteinEditTree.del, ProteinEditTree.dup, ProteinEditTree.ins, ProteinEditTree.del_ins, ProteinEditTree.fs, ProteinEditTree.ext, Stop.stop, ExtEnd.nothing, ExtEnd.later, ExtEnd.earlier, print_protein_edit, WfProteinEdit}
 use Rattle.grammar.specs.Bodies.{Ends, print_ends, WfEnds, ProteinBody, ProteinBody.met1, ProteinBody.bracketed_met1, ProteinBody.no_protein_uncertain, ProteinBody.no_protein, ProteinBody.no_change_uncertain, ProteinBody.no_change, ProteinBody.unknown, ProteinBody.change, ProteinBody.bracketed, print_protein_body, WfProteinBody, NotMet1}
-use Rattle.grammar.specs.Values.{ProtPosV, ProtPosV.prot_pos_v, EndsV, ProteinEditV, ProteinEditV.fs_v, ProteinEditV.ext_v, ProteinEditV.subst_v, ProteinEditV.del_ins_v, ProteinEditV.ins_pv, ProteinEditV.del_v, ProteinEditV.dup_pv, ProteinEditV.ident_v, ProteinBodyV, ProteinBodyV.ordinary, ProteinBodyV.no_change_v, ProteinBodyV.no_change_uncertain_v, ProteinBodyV.no_protein_v, ProteinBodyV.no_protein_uncertain_v, ProteinBodyV.unknown_v, ProteinBodyV.initiation_uncertain}
+use Rattle.grammar.specs.Values.{EndsV, ProteinEditV, ProteinEditV.fs_v, ProteinEditV.ext_v, ProteinEditV.subst_v, ProteinEditV.del_ins_v, ProteinEditV.ins_pv, ProteinEditV.del_v, ProteinEditV.dup_pv, ProteinEditV.ident_v, ProteinBodyV, ProteinBodyV.ordinary, ProteinBodyV.no_change_v, ProteinBodyV.no_change_uncertain_v, ProteinBodyV.no_protein_v, ProteinBodyV.no_protein_uncertain_v, ProteinBodyV.unknown_v, ProteinBodyV.initiation_uncertain}
 use Rattle.grammar.specs.Meaning.{number, meaning_prot, meaning_ends, meaning_protein_edit, meaning_protein_body}
 use Rattle.grammar.specs.Numbers.{Faultless, residual_numbers, ends_numbers, protein_edit_numbers, protein_body_numbers}
 use Rattle.grammar.specs.NumberLaws.{every_number}
 use Rattle.grammar.proofs.NumberLaws.{true_faultless, none_faultless, one_fits, faultless_both, both_faultless}
 use Rattle.lang.specs.Lang.{Lang}
-use Rattle.lang.specs.Canon.{Right, Covered, both_o}
+use Rattle.lang.specs.Canon.{Right, Covered}
 use Rattle.lang.proofs.Canon.{both_some}
 use Rattle.lang_locations.specs.Equal.{eq_position}
 use Rattle.lang_locations.proofs.Equal.{eq_true}

@@ -1,7 +1,7 @@
 -- The canonical text of a whole value: document 01's shortest text, and none exactly where no text reads as the value.
 use Rattle.std.specs.Prelude.{ℕ, ◌+◌, ◌≤◌, ◌≡◌, List, Bool, length}
 use Rattle.std.proofs.Common.{sym, ap, ◌∙◌}
-use Rattle.std.proofs.Math.Option.{Option, none, some}
+use Rattle.std.proofs.Math.Option.{none, some}
 use Rattle.texts.proofs.Best.{best_append, best_behind, best_length}
 use Rattle.record.specs.declared.Kind.{Kind}
 use Rattle.record.specs.declared.Kind.TheVariants.{Cds, Genome, Mt, Tx, Prot, Rna}
@@ -13,7 +13,7 @@ use Rattle.grammar.specs.Meaning.{meaning_na_body, meaning_body, meaning}
 use Rattle.grammar.specs.Numbers.{Faultless, na_body_numbers, body_numbers, FaultlessText}
 use Rattle.grammar.proofs.OneReading.{best_unique}
 use Rattle.lang.specs.Lang.{Lang}
-use Rattle.lang.specs.Canon.{Canon, Right, Covered, both_o}
+use Rattle.lang.specs.Canon.{Canon, Right, Covered}
 use Rattle.lang.proofs.Canon.{both_some, canon_none, canon_some, none_canon}
 use Rattle.lang_na_edits.specs.Alphabet.{Alphabet}
 use Rattle.lang_headers.proofs.Canonical.{canon_header, right_header, covers_header}
@@ -24,7 +24,6 @@ use Rattle.promise.specs.Writing.{ReadsAsValue, ShortestText}
 use Rattle.lang_canon.proofs.WholeLang.{whole_lang}
 use Rattle.lang_canon.specs.NaBodyCanon.{na_body_canon}
 use Rattle.lang_canon.proofs.NaBodyCanon.{body_fits, fits_body}
-use Rattle.lang_canon.specs.ProteinBodyCanon.{canon_protein_body}
 use Rattle.lang_canon.proofs.ProteinBodyCanon.{right_protein, covers_protein, protein_anywhere}
 use Rattle.lang_canon.specs.TextCanon.{canon_na_body, canon_body, canon_text}
 

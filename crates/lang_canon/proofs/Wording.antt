@@ -6,20 +6,16 @@ use Rattle.texts.proofs.Tests.{none_some}
 use Rattle.record.specs.declared.Kind.{Kind}
 use Rattle.record.specs.declared.Wording.{Wording}
 use Rattle.record.specs.declared.Wording.TheVariants.{Shortest, NoRef}
-use Rattle.grammar.specs.NucleotideEdits.{NaEditTree}
-use Rattle.grammar.specs.Bodies.{NaBody, BodyTree}
+use Rattle.grammar.specs.Bodies.{BodyTree}
 use Rattle.grammar.specs.Texts.{Text, Text.text, print}
-use Rattle.grammar.specs.Values.{NaEditV, NaBodyV, HeaderV, BodyV, Value, Value.value}
+use Rattle.grammar.specs.Values.{HeaderV, BodyV, Value, Value.value}
 use Rattle.lang.specs.Canon.{both_o, if_some}
 use Rattle.lang.proofs.Canon.{if_some_lem, if_both}
 use Rattle.lang_na_edits.specs.Alphabet.{Alphabet}
-use Rattle.lang_na_edits.specs.Canon.{canon_na_edit}
 use Rattle.lang_headers.proofs.Canonical.{canon_header}
-use Rattle.promise.specs.Writing.{ReadsAsValue, ToWrite}
-use Rattle.promise.specs.NoRef.{NoRefText}
-use Rattle.lang_canon.specs.Changes.{changed_na_edit, changed_na_body, changed_body, changed}
+use Rattle.promise.specs.Writing.{ReadsAsValue}
+use Rattle.lang_canon.specs.Changes.{changed_body, changed}
 use Rattle.lang_canon.proofs.Changes.{unchanged}
-use Rattle.lang_canon.specs.NaBodyCanon.{na_body_canon}
 use Rattle.lang_canon.proofs.NoRefCanon.{TextFound, no_ref_some}
 use Rattle.lang_canon.specs.TextCanon.{canon_body, canon_text}
 use Rattle.lang_canon.proofs.TextCanon.{text_some, text_none}

@@ -1,33 +1,20 @@
 -- Document 01, "Pairs at the edge": read, and written again.
-use Rattle.std.specs.Prelude.{ℕ, ◌≡◌, refl, List, [], ◌∷◌, ◌++◌, map, Bool, true, false, pos}
+use Rattle.std.specs.Prelude.{ℕ, ◌≡◌, List, [], ◌∷◌, ◌++◌, Bool, true, false, pos}
 use Prim.Native.String.{String}
-use Rattle.std.proofs.Math.Option.{Option, none, some}
+use Rattle.std.proofs.Math.Option.{none, some}
 use Rattle.texts.specs.Ascii.{ascii}
-use Rattle.texts.specs.Runs.{every}
-use Rattle.residue.specs.Residues.{is_residue, threes, is_residues}
-use Rattle.numerals.specs.Digits.{val_from, dec_up_to}
-use Rattle.numerals.specs.Reading.{or_zero}
 use Rattle.record.specs.declared.Kind.{Kind}
 use Rattle.record.specs.declared.Kind.TheVariants.{Cds, Genome, Mt, Tx, Prot, Rna}
 use Rattle.record.specs.declared.HgvsVariant.{HgvsVariant}
-use Rattle.grammar.specs.Texts.{Text, print, all_letters}
+use Rattle.grammar.specs.Texts.{all_letters}
 use Rattle.record.specs.declared.GenomePos.TheVariants.{At}
 use Rattle.record.specs.declared.UncertainLengthChange.TheVariants.{Known}
 use Rattle.grammar.specs.Shapes.{Mu.certain, Both.both}
 use Rattle.grammar.specs.Values.{BodyV, ProtPosV.prot_pos_v, NaEditV.ref_alt, ProteinEditV.ext_v, HeaderV.header_v, ProteinBodyV, ProteinBodyV.ordinary, ProteinBodyV.no_change_v, ProteinBodyV.no_change_uncertain_v, ProteinBodyV.no_protein_v, ProteinBodyV.no_protein_uncertain_v, ProteinBodyV.unknown_v, ProteinBodyV.initiation_uncertain, Value, Value.value}
-use Rattle.grammar.specs.Spans.{part}
 use Rattle.grammar.specs.Contents.{content}
-use Rattle.lang_na_edits.proofs.Alphabet.{alphabets}
-use Rattle.lang_protein_edits.specs.Canon.{canon_terminal}
-use Rattle.lang_headers.proofs.Canonical.{canon_header}
-use Rattle.lang_bodies.proofs.Computing.{computing}
-use Rattle.lang_bodies.proofs.TextOutcome.{text_outcome}
-use Rattle.lang_bodies.proofs.Outcomes.{outcome_read}
-use Rattle.promise.specs.Outcome.{Outcome, Outcome.given, Outcome.refused}
+use Rattle.promise.specs.Outcome.{Outcome.given, Outcome.refused}
 use Rattle.promise.specs.Reading.{Reads}
-use Rattle.promise.proofs.Accepted.{reads_content}
 use Rattle.promise.specs.Writing.{ReadsAsValue, ShortestText}
-use Rattle.lang_canon.specs.TextCanon.{canon_text}
 
 -- ---- what a row says
 -- the value is a location and an edit, or a protein body without location, and this is its shortest text; or the refusal's number and place

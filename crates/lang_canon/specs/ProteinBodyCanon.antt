@@ -1,44 +1,19 @@
 -- The canonical text of a protein body. Location and edit are composed; where that would give one of the barred texts `Met1?` and `(Met1?)`, the text with `Met01` is best.
-use Rattle.std.specs.Prelude.{ℕ, ◌+◌, ◌≤◌, ◌<◌, ◌≡◌, refl, List, ◌++◌, Bool, true, false, cond, ◌&&◌, pos, length, get_or}
-use Rattle.std.proofs.Common.{sym, ap, ◌∙◌, arith, length-append}
-use Rattle.std.proofs.Math.Option.{Option, none, some}
+use Rattle.std.specs.Prelude.{ℕ, List, Bool, false, cond, ◌&&◌, pos}
+use Rattle.std.proofs.Math.Option.{Option, some}
 use Rattle.texts.specs.Ascii.{ascii}
-use Rattle.texts.proofs.Tests.{clash, and-true}
-use Rattle.texts.specs.Runs.{every}
 use Rattle.texts.specs.Words.{same}
-use Rattle.texts.proofs.Words.{same_true}
-use Rattle.texts.specs.Best.{Best, shorter}
-use Rattle.texts.proofs.Best.{best_refl, best_append, best_behind, best_trans}
-use Rattle.alphabet.specs.Letters.{digit}
-use Rattle.numerals.specs.declared.Sign.TheVariants.{Unsigned}
-use Rattle.numerals.specs.Digits.{val_from, val, dec_up_to}
-use Rattle.numerals.proofs.Decimals.{next_best}
-use Rattle.numerals.specs.Reading.{or_zero}
-use Rattle.numerals.proofs.Signs.{or_zero_fit}
-use Rattle.residue_rows.specs.Rows.{rows}
-use Rattle.residue.specs.Residues.{one_of, is_three, is_residue}
 use Rattle.record.specs.declared.Kind.TheVariants.{Prot}
-use Rattle.grammar.specs.Shapes.{Interval.one, Interval.two, Mu, Mu.certain, Mu.uncertain, Both.both}
-use Rattle.grammar.specs.Positions.{Residual.residual, Digits}
-use Rattle.grammar.specs.ProteinEdits.{ProteinEditTree, ProteinEditTree.subst, ProteinEditTree.subst_unknown, ProteinEditTree.equal, ProteinEditTree.del, ProteinEditTree.dup, ProteinEditTree.ins, ProteinEditTree.del_ins, ProteinEditTree.fs, ProteinEditTree.ext, Stop.stop, ExtEnd.nothing, ExtEnd.later, ExtEnd.earlier, print_protein_edit, WfProteinEdit}
-use Rattle.grammar.specs.Bodies.{Ends, print_ends, WfEnds, ProteinBody, ProteinBody.met1, ProteinBody.bracketed_met1, ProteinBody.no_protein_uncertain, ProteinBody.no_protein, ProteinBody.no_change_uncertain, ProteinBody.no_change, ProteinBody.unknown, ProteinBody.change, ProteinBody.bracketed, print_protein_body, WfProteinBody, NotMet1}
+use Rattle.grammar.specs.Shapes.{Interval.one, Mu, Mu.certain, Mu.uncertain, Both.both}
+use Rattle.grammar.specs.Positions.{Residual.residual}
+use Rattle.grammar.specs.ProteinEdits.{ProteinEditTree, ProteinEditTree.subst_unknown}
+use Rattle.grammar.specs.Bodies.{Ends, ProteinBody, ProteinBody.met1, ProteinBody.no_protein_uncertain, ProteinBody.no_protein, ProteinBody.no_change_uncertain, ProteinBody.no_change, ProteinBody.unknown, ProteinBody.change, ProteinBody.bracketed}
 use Rattle.grammar.specs.Values.{ProtPosV, ProtPosV.prot_pos_v, EndsV, ProteinEditV, ProteinEditV.fs_v, ProteinEditV.ext_v, ProteinEditV.subst_v, ProteinEditV.del_ins_v, ProteinEditV.ins_pv, ProteinEditV.del_v, ProteinEditV.dup_pv, ProteinEditV.ident_v, ProteinBodyV, ProteinBodyV.ordinary, ProteinBodyV.no_change_v, ProteinBodyV.no_change_uncertain_v, ProteinBodyV.no_protein_v, ProteinBodyV.no_protein_uncertain_v, ProteinBodyV.unknown_v, ProteinBodyV.initiation_uncertain}
-use Rattle.grammar.specs.Meaning.{number, meaning_prot, meaning_ends, meaning_protein_edit, meaning_protein_body}
-use Rattle.grammar.specs.Numbers.{Faultless, residual_numbers, ends_numbers, protein_edit_numbers, protein_body_numbers}
-use Rattle.grammar.specs.NumberLaws.{every_number}
-use Rattle.grammar.proofs.NumberLaws.{true_faultless, none_faultless, one_fits, faultless_both, both_faultless}
-use Rattle.lang.specs.Lang.{Lang}
-use Rattle.lang.specs.Canon.{Right, Covered, both_o}
-use Rattle.lang.proofs.Canon.{both_some}
+use Rattle.grammar.specs.Numbers.{Faultless, protein_body_numbers}
+use Rattle.lang.specs.Canon.{both_o}
 use Rattle.lang_locations.specs.Equal.{eq_position}
-use Rattle.lang_locations.proofs.Equal.{eq_true}
 use Rattle.lang_locations.proofs.Canonical.{ends_canon}
-use Rattle.lang_locations.proofs.Fits.{ends_fits, fits_ends}
-use Rattle.lang_protein_edits.specs.Canonical.{FitsProteinEdit}
-use Rattle.lang_protein_edits.proofs.Canonical.{protein_edit_canon, fits_anywhere}
-use Rattle.lang_bodies.specs.ProteinBodies.{parse_protein_body}
-use Rattle.lang_bodies.specs.ProteinSound.{WfOrdinary}
-use Rattle.lang_bodies.proofs.ProteinSound.{ordinary_complete, complete_protein, sound_protein}
+use Rattle.lang_protein_edits.proofs.Canonical.{protein_edit_canon}
 
 -- ---- the Met-1 `?` record: location and edit of the barred texts
 abbrev pub met_one : ProtPosV

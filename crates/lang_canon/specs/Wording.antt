@@ -1,25 +1,19 @@
 -- Which text is wanted of a value, and that it is the canonical text of the changed value, where the value as it came has a text.
-use Rattle.std.specs.Prelude.{ℕ, ◌≡◌, refl, List, Bool}
-use Rattle.std.proofs.Common.{sym, ◌∙◌}
-use Rattle.std.proofs.Math.Option.{Option, none, some}
-use Rattle.texts.proofs.Tests.{none_some}
+use Rattle.std.specs.Prelude.{ℕ, List, Bool}
+use Rattle.std.proofs.Math.Option.{Option}
 use Rattle.record.specs.declared.Kind.{Kind}
 use Rattle.record.specs.declared.Wording.{Wording}
 use Rattle.record.specs.declared.Wording.TheVariants.{Shortest, NoRef}
 use Rattle.grammar.specs.NucleotideEdits.{NaEditTree}
-use Rattle.grammar.specs.Bodies.{NaBody, BodyTree}
-use Rattle.grammar.specs.Texts.{Text, Text.text, print}
-use Rattle.grammar.specs.Values.{NaEditV, NaBodyV, HeaderV, BodyV, Value, Value.value}
-use Rattle.lang.specs.Canon.{both_o, if_some}
-use Rattle.lang.proofs.Canon.{if_some_lem, if_both}
+use Rattle.grammar.specs.Bodies.{NaBody}
+use Rattle.grammar.specs.Values.{NaEditV, NaBodyV, Value}
+use Rattle.lang.specs.Canon.{if_some}
 use Rattle.lang_na_edits.specs.Alphabet.{Alphabet}
 use Rattle.lang_na_edits.specs.Canon.{canon_na_edit}
-use Rattle.lang_headers.proofs.Canonical.{canon_header}
-use Rattle.promise.specs.Writing.{ReadsAsValue, ToWrite}
+use Rattle.promise.specs.Writing.{ToWrite}
 use Rattle.promise.specs.NoRef.{NoRefText}
-use Rattle.lang_canon.specs.Changes.{changed_na_edit, changed_na_body, changed_body, changed}
+use Rattle.lang_canon.specs.Changes.{changed_na_edit, changed_na_body}
 use Rattle.lang_canon.specs.NaBodyCanon.{na_body_canon}
-use Rattle.lang_canon.specs.TextCanon.{canon_body, canon_text}
 
 -- ---- the tree to be written, of an edit, a body, a text
 abbrev pub worded_na_edit : (ℕ → Bool) → Wording → NaEditV → Option NaEditTree

@@ -1,5 +1,5 @@
 -- The text of a header's value: there is one at most.
-use Rattle.std.specs.Prelude.{ℕ, ◌≡◌, refl, List, Bool, true, cond, ◌&&◌, leb, length}
+use Rattle.std.specs.Prelude.{ℕ, ◌≡◌, refl, List, true, cond, leb, length}
 use Rattle.std.proofs.Common.{ap, le-leb, leb-true}
 use Rattle.std.proofs.Math.Option.{Option, none, some}
 use Rattle.texts.proofs.Best.{best_refl}

@@ -1,6 +1,6 @@
 -- The kind behind the header.
 use Rattle.std.specs.Prelude.{ℕ, ◌≡◌, refl, List, [], ◌∷◌, ◌++◌, Bool, true, false, cond, length, drop}
-use Rattle.std.proofs.Math.Option.{Option, none, some}
+use Rattle.std.proofs.Math.Option.{some}
 use Rattle.texts.specs.Ascii.{ascii}
 use Rattle.texts.proofs.Tests.{none_some}
 use Rattle.texts.specs.Words.{starts}

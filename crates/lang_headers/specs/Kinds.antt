@@ -1,16 +1,10 @@
 -- The kind behind the header.
-use Rattle.std.specs.Prelude.{ℕ, ◌≡◌, refl, List, [], ◌∷◌, ◌++◌, Bool, true, false, cond, length, drop}
+use Rattle.std.specs.Prelude.{ℕ, List, [], ◌∷◌, cond}
 use Rattle.std.proofs.Math.Option.{Option, none, some}
-use Rattle.texts.specs.Ascii.{ascii}
-use Rattle.texts.proofs.Tests.{none_some}
 use Rattle.texts.specs.Words.{starts}
-use Rattle.texts.proofs.Words.{starts_split}
 use Rattle.record.specs.declared.Kind.{Kind}
 use Rattle.record.specs.declared.Kind.TheVariants.{Cds, Genome, Mt, Tx, Prot, Rna}
 use Rattle.grammar.specs.Header.{print_kind}
-use Rattle.lang.specs.Lang.{Front, Lang}
-use Rattle.lang.proofs.BothLang.{behind}
-use Rattle.lang_headers.specs.Sound.{FollowsHeader}
 
 -- the first kind of a row whose text stands at the front
 unfoldable pub first_kind : List Kind → List ℕ → Option Kind

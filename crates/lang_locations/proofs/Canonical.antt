@@ -29,7 +29,7 @@ use Rattle.record.specs.declared.MtPos.TheVariants as M
 use Rattle.grammar.specs.Positions.{Mark, Mark.bare, Mark.plus, Mark.minus, Mark.star, OffsetTree, OffsetTree.absent, OffsetTree.ahead, OffsetTree.back, Based, Based.based, Genomic, Genomic.known, Genomic.unknown, Residual.residual, PositionTree, print_mark, print_offset, print_based, print_genomic, Digits, WfOffset, WfBased, Unstarred, WfUnstarred, WfGenomic, WfPosition}
 use Rattle.grammar.specs.Values.{ProtPosV.prot_pos_v, PositionV}
 use Rattle.grammar.specs.Meaning.{number, sign_of, from_of, offset_of, meaning_cds, meaning_genome, meaning_mt, meaning_position}
-use Rattle.grammar.specs.Numbers.{Numeral.numeral, Faultless, offset_numbers, based_numbers, genomic_numbers, position_numbers}
+use Rattle.grammar.specs.Numbers.{Numeral.numeral, Faultless, offset_numbers, based_numbers, genomic_numbers}
 use Rattle.grammar.proofs.NumberLaws.{one_fits, none_faultless, written_faultless, faultless_both, both_faultless}
 use Rattle.lang.specs.Canon.{Canon, Right, Covered}
 use Rattle.lang.proofs.Canon.{map_some, both_some}

@@ -1,5 +1,5 @@
 -- Locations that are written as they stand: with plainly spelled numbers that fit, each is the one that canon gives for its value.
-use Rattle.std.specs.Prelude.{ℕ, ◌+◌, ◌≤◌, ◌≡◌, refl, List, [], ◌∷◌, Bool, true, false, not, ℤ, pos, length}
+use Rattle.std.specs.Prelude.{ℕ, ◌+◌, ◌≤◌, ◌≡◌, refl, List, [], ◌∷◌, true, false, length}
 use Rattle.std.proofs.Math.Option.{some}
 use Rattle.std.proofs.lemmas.Bool.{not-true}
 use Rattle.texts.proofs.Tests.{clash, and_false}
@@ -12,14 +12,13 @@ use Rattle.numerals.proofs.Signs.{or_zero_fit}
 use Rattle.numerals.proofs.Plain.{plus_never, plain_found, unsigned_plain, minus_plain}
 use Rattle.record.specs.declared.Kind.{Kind}
 use Rattle.record.specs.declared.Kind.TheVariants.{Cds, Genome, Mt, Tx, Prot, Rna}
-use Rattle.grammar.specs.Positions.{Mark, Mark.bare, Mark.plus, Mark.minus, Mark.star, OffsetTree, OffsetTree.absent, OffsetTree.ahead, OffsetTree.back, Based, Based.based, Genomic, Genomic.known, Genomic.unknown, Residual, Residual.residual, PositionTree, print_mark, print_position, Digits, WfOffset, WfBased, WfPosition}
+use Rattle.grammar.specs.Positions.{Mark, Mark.bare, Mark.plus, Mark.minus, Mark.star, OffsetTree, OffsetTree.absent, OffsetTree.ahead, OffsetTree.back, Based.based, Genomic.known, Genomic.unknown, Residual.residual, PositionTree, print_mark, print_position, Digits, WfOffset, WfBased, WfPosition}
 use Rattle.grammar.specs.Shapes.{Interval.one, Interval.two, Mu.certain, Mu.uncertain}
 use Rattle.grammar.specs.Bodies.{Ends, WfEnds, LocationTree, WfLocation}
 use Rattle.grammar.specs.Meaning.{number, sign_of, from_of, offset_of, meaning_position, meaning_ends, map_mu}
 use Rattle.grammar.specs.Numbers.{Numeral.numeral, Faultless, offset_numbers, based_numbers, position_numbers, ends_numbers, mu_numbers}
 use Rattle.grammar.specs.NumberLaws.{all_plain}
 use Rattle.grammar.proofs.NumberLaws.{one_fits, one_plain, faultless_both, plain_both}
-use Rattle.lang.specs.MuCanon.{settled_mu}
 use Rattle.lang_locations.specs.Equal.{eqℤ, eq_position}
 use Rattle.lang_locations.proofs.Equal.{eq_refl}
 use Rattle.lang_locations.specs.Canon.{canon_offset, marked, canon_base, canon_based, canon_position}

@@ -1,17 +1,12 @@
 -- Whether two positions are one.
-use Rattle.std.specs.Prelude.{◌≡◌, refl, Bool, true, false, ◌&&◌, eqb, ℤ, pos, negsuc}
-use Rattle.std.proofs.Common.{sym, ap, ◌∙◌, eqb-true, eq-eqb, SFits, to_z, of_z, to_z-of_z}
-use Rattle.std.specs.Int.{w32}
-use Rattle.texts.proofs.Tests.{and-true, true_and, clash, never}
+use Rattle.std.specs.Prelude.{Bool, true, false, ◌&&◌, eqb, ℤ, pos, negsuc}
 use Rattle.texts.specs.Words.{same}
-use Rattle.texts.proofs.Words.{same_true, same_refl}
 use Rattle.record.specs.declared.Kind.{Kind}
 use Rattle.record.specs.declared.Kind.TheVariants.{Cds, Genome, Mt, Tx, Prot, Rna}
 use Rattle.record.specs.declared.Offset.{Offset}
 use Rattle.record.specs.declared.Offset.TheVariants.{Absent, By}
 use Rattle.record.specs.declared.CdsFrom.{CdsFrom}
 use Rattle.record.specs.declared.CdsFrom.TheVariants.{Start, End}
-use Rattle.record.specs.declared.CdsPos.{CdsPos}
 use Rattle.record.specs.declared.GenomePos.TheVariants as G
 use Rattle.record.specs.declared.MtPos.TheVariants as M
 use Rattle.grammar.specs.Values.{ProtPosV.prot_pos_v, PositionV}

@@ -9,7 +9,7 @@ use Rattle.texts.proofs.Tests.{and-true, clash}
 use Rattle.texts.specs.Runs.{every}
 use Rattle.texts.specs.Words.{starts, StartsWith}
 use Rattle.texts.proofs.Words.{starts_with}
-use Rattle.alphabet.specs.Letters.{among, letter, digit}
+use Rattle.alphabet.specs.Letters.{letter, digit}
 use Rattle.alphabet.proofs.Apart.{none_among, letter_no_digit}
 use Rattle.grammar.specs.Shapes.{Mu, Mu.certain, Mu.uncertain, print_mu, WfMu}
 use Rattle.grammar.specs.NucleotideEdits.{NaEditTree, NaEditTree.equal, NaEditTree.swap, NaEditTree.del_ins, NaEditTree.del_num_ins, NaEditTree.del_num, NaEditTree.del, NaEditTree.ins, NaEditTree.dup, NaEditTree.inv_num, NaEditTree.inv, print_na_edit, WfNaEdit}

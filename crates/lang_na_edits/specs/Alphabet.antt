@@ -1,11 +1,7 @@
 -- What the grammar of nucleotide edits needs of an alphabet: its letters are ASCII letters, and none of those that tell the words from letters.
-use Rattle.std.specs.Prelude.{ℕ, ◌≡◌, refl, Bool, true, false}
+use Rattle.std.specs.Prelude.{ℕ, ◌≡◌, Bool, true, false}
 use Prim.Native.Char.{code}
-use Rattle.texts.proofs.Tests.{never, clash}
-use Rattle.alphabet.specs.Letters.{letter, digit, nucleotide}
-use Rattle.alphabet.proofs.Apart.{letter_no_digit, nucleotide_letter}
-use Rattle.record.specs.declared.Kind.{Kind}
-use Rattle.grammar.specs.Texts.{all_letters}
+use Rattle.alphabet.specs.Letters.{letter}
 
 pub record Alphabet (na : ℕ → Bool) : Type 0 where
   pub letters : (b : ℕ) → na b ≡ true → letter b ≡ true

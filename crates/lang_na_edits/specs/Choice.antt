@@ -1,12 +1,8 @@
 -- Parsers put together: what stands behind a word, and what is made of bytes where there are any.
-use Rattle.std.specs.Prelude.{ℕ, ◌≤◌, ◌≡◌, Bool, true, false, cond, length, drop}
-use Rattle.std.proofs.Math.Path.{refl}
-use mathlib.Core.List.{List, [], ◌∷◌, ◌++◌}
+use Rattle.std.specs.Prelude.{ℕ, cond, length, drop}
+use mathlib.Core.List.{List, [], ◌∷◌}
 use Rattle.std.proofs.Math.Option.{Option, none, some}
-use Rattle.std.proofs.Common.{arith}
-use Rattle.texts.proofs.Tests.{none_some}
 use Rattle.texts.specs.Words.{starts}
-use Rattle.texts.proofs.Words.{starts_split}
 
 -- what f makes of the text behind the word w, where the text begins with it
 abbrev pub on_word : {A : Type 0} → List ℕ → (List ℕ → A) → List ℕ → Option A

@@ -25,7 +25,7 @@ use Rattle.grammar.specs.Shapes.{Both, Both.both}
 use Rattle.grammar.specs.ProteinEdits.{Residue, Terminal, Terminal.ter, Terminal.x, Terminal.star, Length, Length.counted, Length.unknown, Length.unsaid, Stop, Stop.stop, ExtEnd, ExtEnd.nothing, ExtEnd.later, ExtEnd.earlier, print_terminal, print_length, print_stop, print_fs_end, print_ext_end, WfLength, WfStop, WfFsEnd, WfExtEnd}
 use Rattle.grammar.specs.Values.{ProteinEditV, ProteinEditV.fs_v, ProteinEditV.ext_v}
 use Rattle.grammar.specs.Meaning.{number, length_of, meaning_fs, meaning_ext}
-use Rattle.grammar.specs.Numbers.{Numeral, Faultless, length_numbers, stop_numbers, fs_numbers, ext_numbers}
+use Rattle.grammar.specs.Numbers.{Faultless, length_numbers, stop_numbers, fs_numbers, ext_numbers}
 use Rattle.grammar.proofs.NumberLaws.{one_fits, none_faultless, written_faultless}
 use Rattle.lang.proofs.Choice.{next_cases}
 use Rattle.lang.specs.Canon.{map_o}

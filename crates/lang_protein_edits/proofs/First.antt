@@ -7,7 +7,7 @@ use Rattle.texts.specs.Ascii.{ascii}
 use Rattle.texts.proofs.Tests.{right_or}
 use Rattle.texts.specs.Runs.{every, run}
 use Rattle.texts.proofs.Runs.{run_first}
-use Rattle.texts.specs.Words.{starts, StartsWith}
+use Rattle.texts.specs.Words.{starts}
 use Rattle.texts.proofs.Words.{starts_with, starts_none}
 use Rattle.alphabet.specs.Letters.{among, residue}
 use Rattle.alphabet.proofs.Apart.{among_every, among_none}

@@ -1,5 +1,5 @@
 -- What may follow a protein edit: the end of the text, or a byte with which no edit goes on.
-use Rattle.std.specs.Prelude.{ℕ, ◌≡◌, refl, List, [], ◌∷◌, ◌++◌, Bool, true, false, ◌||◌}
+use Rattle.std.specs.Prelude.{ℕ, ◌≡◌, refl, List, [], ◌∷◌, ◌++◌, true, false, ◌||◌}
 use Prim.Native.Char.{code}
 use Rattle.texts.specs.Ascii.{ascii}
 use Rattle.texts.proofs.Tests.{left_or, right_or, never, clash}

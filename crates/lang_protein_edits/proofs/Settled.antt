@@ -1,5 +1,5 @@
 -- Edits that are written as they stand: with a plainly spelled number that fits, each is the one that canon gives for its value.
-use Rattle.std.specs.Prelude.{ℕ, ◌+◌, ◌≡◌, refl, [], Bool, true, false, length}
+use Rattle.std.specs.Prelude.{ℕ, ◌+◌, ◌≡◌, refl, [], true, length}
 use Rattle.std.proofs.Common.{◌∙◌}
 use Rattle.std.proofs.Math.Option.{Option, none, some}
 use Rattle.texts.proofs.Tests.{clash}

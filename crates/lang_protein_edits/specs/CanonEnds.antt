@@ -1,36 +1,13 @@
 -- What canon gives behind `fs` and `ext` is what the value says, and its text is best.
-use Rattle.std.specs.Prelude.{ℕ, zero, suc, ◌+◌, ◌≤◌, ◌≡◌, refl, List, [], ◌++◌, Bool, true, false, ℤ, length}
-use Prim.Native.Char.{code}
-use Rattle.std.proofs.Common.{ap, ◌∙◌}
+use Rattle.std.specs.Prelude.{ℕ, ◌≡◌, List}
 use Rattle.std.proofs.Math.Option.{Option, none, some}
-use Rattle.texts.specs.Ascii.{ascii}
 use Rattle.texts.specs.Best.{Best}
-use Rattle.texts.proofs.Best.{best_refl, best_behind, best_more}
-use Rattle.texts.proofs.Tests.{none_some, cond_some}
-use Rattle.texts.specs.Words.{same}
-use Rattle.texts.proofs.Words.{same_true}
-use Rattle.numerals.specs.Digits.{val, dec}
-use Rattle.numerals.proofs.Decimals.{dec_best}
-use Rattle.numerals.specs.Reading.{signed, most}
-use Rattle.numerals.proofs.Signs.{or_zero_fit}
-use Rattle.numerals.specs.Written.{unsigned_digits, negated_digits}
-use Rattle.numerals.proofs.Written.{unsigned_written, negated_written, unsigned_found, negated_found}
-use Rattle.numerals.specs.declared.Sign.TheVariants.{Unsigned, Negated}
-use Rattle.residue.specs.Residues.{is_residue}
-use Rattle.record.specs.declared.UncertainLengthChange.{UncertainLengthChange}
-use Rattle.record.specs.declared.UncertainLengthChange.TheVariants.{None, Unknown, Known}
-use Rattle.grammar.specs.Optional.{print_optional, WfOptional}
-use Rattle.grammar.specs.Positions.{Digits}
-use Rattle.grammar.specs.Shapes.{Both, Both.both}
-use Rattle.grammar.specs.ProteinEdits.{Residue, Terminal, Terminal.ter, Terminal.x, Terminal.star, Length, Length.counted, Length.unknown, Length.unsaid, Stop, Stop.stop, ExtEnd, ExtEnd.nothing, ExtEnd.later, ExtEnd.earlier, print_terminal, print_length, print_stop, print_fs_end, print_ext_end, WfLength, WfStop, WfFsEnd, WfExtEnd}
-use Rattle.grammar.specs.Values.{ProteinEditV, ProteinEditV.fs_v, ProteinEditV.ext_v}
-use Rattle.grammar.specs.Meaning.{number, length_of, meaning_fs, meaning_ext}
-use Rattle.grammar.specs.Numbers.{Numeral, Faultless, length_numbers, stop_numbers, fs_numbers, ext_numbers}
-use Rattle.grammar.proofs.NumberLaws.{one_fits, none_faultless, written_faultless}
-use Rattle.lang.proofs.Choice.{next_cases}
-use Rattle.lang.specs.Canon.{map_o}
-use Rattle.lang.proofs.Canon.{map_some, both_some}
-use Rattle.lang_protein_edits.specs.Canon.{canon_terminal, canon_length, canon_stop, canon_fs_end, is_optional, canon_earlier, canon_ext_end}
+use Rattle.numerals.specs.declared.Sign.TheVariants.{Negated}
+use Rattle.record.specs.declared.UncertainLengthChange.TheVariants.{None, Known}
+use Rattle.grammar.specs.ProteinEdits.{Stop, Stop.stop, ExtEnd, ExtEnd.nothing, ExtEnd.later, ExtEnd.earlier, print_terminal}
+use Rattle.grammar.specs.Meaning.{number, length_of}
+use Rattle.grammar.specs.Numbers.{Numeral, Faultless}
+use Rattle.lang_protein_edits.specs.Canon.{canon_fs_end, canon_ext_end}
 
 -- a part of an edit that is what the value says
 pub record PartRight {Tree Value : Type 0} (Wf : Tree → Type 0) (numbers : ℕ → Tree → List Numeral) (meaning : Tree → Value) (v : Value) (t : Tree) : Type 0 where

@@ -1,10 +1,10 @@
 -- What was answered for a text whose room is a part of lent room.
-use Prim.Native.Nat.{ℕ, ◌+◌, ◌-◌, ◌≤◌, ◌<◌, ◌^◌}
+use Prim.Native.Nat.{ℕ, ◌+◌, ◌-◌, ◌≤◌}
 use mathlib.Core.Path.{◌≡◌, refl, ap, ◌∙◌}
 use mathlib.Core.Bool.{Bool, true, false, cond}
 use mathlib.Core.List.{List, [], ◌++◌, append-nil, append_assoc}
 use native.Mathlib.Omega.{arith}
-use lib.ListN.{length, take, drop, length-append, length-drop, drop_of_length-le, take-append-drop}
+use lib.ListN.{length, take, drop, length-drop, drop_of_length-le, take-append-drop}
 use lib.Seq.{drop-drop}
 use Rattle.texts.proofs.Slices.{tail_part}
 use Rattle.lent.specs.Put.{put, put_front}

@@ -1,6 +1,5 @@
 -- What the line program does next, by what a read, a step or a write has given.
-use Rattle.std.specs.Prelude.{ℕ, zero, suc, ◌+◌, ◌≤◌, ◌<◌, ◌≡◌, refl, Bool, true, false, cond, List, leb, min, ℤ, pos, negsuc, length, take, drop}
-use Rattle.std.proofs.Common.{leb-true, leb-false}
+use Rattle.std.specs.Prelude.{ℕ, zero, suc, ◌+◌, ◌≤◌, ◌≡◌, Bool, true, false, cond, List, leb, min, ℤ, pos, negsuc, length, take, drop}
 use Rattle.lent.specs.Put.{put}
 use Rattle.lines.specs.declared.Line.{Line}
 use Rattle.lines.specs.declared.Progress.{Progress}

@@ -1,5 +1,5 @@
 -- A step of a program that writes into lent room: calls of `take`, each answer behind the one before, while there is room for one more.
-use Rattle.std.specs.Prelude.{ℕ, ◌+◌, ◌-◌, ◌≤◌, ◌<◌, ◌≡◌, refl, Bool, cond, leb, drop}
+use Rattle.std.specs.Prelude.{ℕ, ◌+◌, ◌-◌, ◌≤◌, ◌<◌, ◌≡◌, refl, Bool, cond, drop}
 use Rattle.std.proofs.Math.Path.{sym, ap}
 use Rattle.std.proofs.Common.{◌∙◌, arith, add-zero, length-append, drop_of_length-le, length-take-le, take_at, le-leb}
 use Rattle.std.proofs.Math.Bool.{true, false}
@@ -13,7 +13,7 @@ use Rattle.lines.specs.declared.Taken.{Taken}
 use Rattle.lines.specs.declared.Progress.{Progress}
 use Rattle.lines.specs.Lines.{line_end, Held}
 use Rattle.lines.specs.Taking.{no_line, held_in, ended, used, longer, taken, stored}
-use Rattle.lines.specs.Feeding.{Going, line_after, turn, turns, through, fed, writes, clear, said, step_on}
+use Rattle.lines.specs.Feeding.{Going, line_after, turn, turns, through, writes, clear, said, step_on}
 use Rattle.lines.proofs.HeldLines.{used_le, used_some, stored_length, longer_within}
 use Rattle.lines.proofs.Turns.{turn_open, turn_ended, through_none, through_wait, through_turn, through_less, through_rest}
 use Rattle.lines.proofs.Cuts.{fed_behind}

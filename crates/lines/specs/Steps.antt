@@ -1,19 +1,12 @@
 -- A step of a program that writes into lent room: calls of `take`, each answer behind the one before, while there is room for one more.
-use Rattle.std.specs.Prelude.{ℕ, ◌+◌, ◌-◌, ◌≤◌, ◌<◌, ◌≡◌, refl, Bool, cond, leb, drop}
-use Rattle.std.proofs.Math.Path.{sym, ap}
-use Rattle.std.proofs.Common.{◌∙◌, arith, add-zero, length-append, drop_of_length-le, length-take-le, take_at, le-leb}
-use Rattle.std.proofs.Math.Bool.{true, false}
-use mathlib.Core.List.{List, [], ◌∷◌, ◌++◌, append-nil}
-use Rattle.std.proofs.Math.ListN.{length, take, length-drop}
-use Rattle.std.proofs.Math.Seq.{drop-drop}
-use Rattle.std.proofs.lemmas.Bool.{lt-leb}
-use Rattle.lent.specs.Put.{put, put_length, put_none, put_put}
+use Rattle.std.specs.Prelude.{ℕ, ◌+◌, Bool, leb}
+use mathlib.Core.List.{List}
+use Rattle.std.proofs.Math.ListN.{length}
 use Rattle.lines.specs.declared.Line.{Line}
-use Rattle.lines.specs.declared.Taken.{Taken}
 use Rattle.lines.specs.declared.Progress.{Progress}
-use Rattle.lines.specs.Lines.{line_end, Held}
-use Rattle.lines.specs.Taking.{no_line, held_in, ended, used, longer, taken, stored}
-use Rattle.lines.specs.Feeding.{Going, line_after, turn, turns, through, fed, writes, clear, said, step_on}
+use Rattle.lines.specs.Lines.{Held}
+use Rattle.lines.specs.Taking.{used}
+use Rattle.lines.specs.Feeding.{line_after, fed, writes, clear, said}
 
 -- ---- one call of `take`
 module _ (answer : Held → List ℕ) (buffer : List ℕ) (line : Line) (piece : List ℕ) where

@@ -1,12 +1,8 @@
 -- Which numbers fit, and which are plainly spelled, at the edges.
-use Rattle.std.specs.Prelude.{refl, List, [], ◌∷◌, Bool, true, false}
-use Rattle.texts.specs.Ascii.{ascii}
+use Rattle.std.specs.Prelude.{refl}
 use Rattle.texts.specs.Words.{starts}
 use Rattle.texts.specs.Tables.{Each}
 use Rattle.texts.proofs.Tables.{Agree, agreed}
-use Rattle.numerals.specs.declared.Sign.TheVariants.{Unsigned, Plus, Minus, Negated}
-use Rattle.numerals.specs.Spelling.{is_plain}
-use Rattle.numerals.specs.Reading.{fits}
 use Rattle.numerals.specs.Examples.{bounds, spellings}
 
 pub bounds_agree : Each Agree bounds

@@ -1,11 +1,9 @@
 -- The digits to be written for a number with a sign, where it fits.
-use Rattle.std.specs.Prelude.{ℕ, zero, suc, ◌≤◌, ◌≡◌, refl, List, cond, ℤ, pos, negsuc}
+use Rattle.std.specs.Prelude.{ℕ, zero, suc, ◌≤◌, ◌≡◌, refl, List, ℤ, pos, negsuc}
 use Rattle.std.proofs.Common.{ap, ◌∙◌, le-leb, leb-true}
-use Rattle.std.proofs.Math.Option.{Option, none, some}
+use Rattle.std.proofs.Math.Option.{some}
 use Rattle.texts.proofs.Tests.{none_some, cond_some}
-use Rattle.texts.specs.Runs.{Some}
-use Rattle.alphabet.specs.Letters.{digit}
-use Rattle.numerals.specs.Digits.{val, dec}
+use Rattle.numerals.specs.Digits.{dec}
 use Rattle.numerals.proofs.Decimals.{dec_value, dec_some}
 use Rattle.numerals.specs.Reading.{signed, most, fits, or_zero}
 use Rattle.numerals.proofs.Signs.{or_zero_fit}

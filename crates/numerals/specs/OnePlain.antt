@@ -1,14 +1,8 @@
 -- A number that fits has exactly one plain spelling, wherever it may stand.
-use Rattle.std.specs.Prelude.{ℕ, zero, suc, ◌≤◌, ◌≡◌, refl, List, Bool, true, false, not, ℤ, pos, negsuc, neg_ℤ, nat_abs}
-use Rattle.std.proofs.Common.{sym, ap, ◌∙◌, arith, ne_eqb, SFits}
-use Rattle.std.specs.Int.{w32}
-use Rattle.texts.proofs.Tests.{clash}
+use Rattle.std.specs.Prelude.{ℕ, ◌≡◌, List, Bool, true, false, ℤ}
 use Rattle.numerals.specs.declared.Sign.{Sign}
 use Rattle.numerals.specs.declared.Sign.TheVariants.{Unsigned, Plus, Minus, Negated}
-use Rattle.numerals.specs.Digits.{val, dec}
 use Rattle.numerals.specs.Spelling.{is_plain}
-use Rattle.numerals.specs.Reading.{signed, most}
-use Rattle.numerals.specs.Signs.{written_sign}
 use Rattle.numerals.specs.Written.{Written}
 
 -- ---- the signs that a number may have, by where it stands

@@ -1,12 +1,10 @@
 -- The digits to be written for a number with a sign, where it fits.
-use Rattle.std.specs.Prelude.{ℕ, zero, suc, ◌≤◌, ◌≡◌, refl, List, cond, ℤ, pos, negsuc}
-use Rattle.std.proofs.Common.{ap, ◌∙◌, le-leb, leb-true}
+use Rattle.std.specs.Prelude.{ℕ, zero, suc, ◌≤◌, ◌≡◌, List, cond, ℤ, pos, negsuc}
 use Rattle.std.proofs.Math.Option.{Option, none, some}
-use Rattle.texts.proofs.Tests.{none_some, cond_some}
 use Rattle.texts.specs.Runs.{Some}
 use Rattle.alphabet.specs.Letters.{digit}
 use Rattle.numerals.specs.Digits.{val, dec}
-use Rattle.numerals.specs.Reading.{signed, most, fits, or_zero}
+use Rattle.numerals.specs.Reading.{most, fits, or_zero}
 use Rattle.numerals.specs.declared.Sign.{Sign}
 use Rattle.numerals.specs.declared.Sign.TheVariants.{Unsigned, Negated}
 

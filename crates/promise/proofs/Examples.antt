@@ -1,19 +1,9 @@
 -- Document 01's tables row by row: the number and place of each answer, reference-free edits, widths at the edges.
-use Rattle.std.specs.Prelude.{ℕ, refl, List, [], ◌∷◌, ℤ, pos, negsuc}
-use Rattle.std.proofs.Math.Option.{Option, none, some}
-use Rattle.texts.specs.Ascii.{ascii}
+use Rattle.std.specs.Prelude.{ℕ, refl, List, [], ◌∷◌}
 use Rattle.texts.specs.Words.{same}
 use Rattle.texts.specs.Tables.{Each}
 use Rattle.texts.proofs.Tables.{Agree, agreed}
-use Rattle.record.specs.declared.Span.{Span}
-use Rattle.record.specs.declared.Offset.{Offset}
-use Rattle.record.specs.declared.Offset.TheVariants.{Absent, By}
-use Rattle.record.specs.declared.CdsFrom.{CdsFrom}
-use Rattle.record.specs.declared.CdsFrom.TheVariants.{Start, End}
-use Rattle.record.specs.declared.CdsPos.{CdsPos}
-use Rattle.record.specs.declared.GenomePos.{GenomePos}
 use Rattle.record.specs.declared.GenomePos.TheVariants as G
-use Rattle.record.specs.declared.MtPos.{MtPos}
 use Rattle.record.specs.declared.MtPos.TheVariants as Mt
 use Rattle.record.specs.declared.MuCdsInterval.TheVariants as MuCds
 use Rattle.record.specs.declared.MuGenomeInterval.TheVariants as MuGenome
@@ -21,13 +11,8 @@ use Rattle.record.specs.declared.MuMtInterval.TheVariants as MuMt
 use Rattle.record.specs.declared.MuTxInterval.TheVariants as MuTx
 use Rattle.record.specs.declared.MuRnaInterval.TheVariants as MuRna
 use Rattle.record.specs.declared.MuProtInterval.TheVariants as MuProt
-use Rattle.record.specs.declared.NaEdit.TheVariants.{DelNum}
-use Rattle.record.specs.declared.MuNaEdit.{MuNaEdit}
 use Rattle.record.specs.declared.MuNaEdit.TheVariants as MuNa
-use Rattle.record.specs.declared.ProteinEdit.TheVariants.{Del}
 use Rattle.record.specs.declared.MuProteinEdit.TheVariants as MuPr
-use Rattle.record.specs.declared.ProtLocEdit.TheVariants.{Ordinary, NoChange, NoChangeUncertain, NoProtein, NoProteinUncertain, Unknown, InitiationUncertain}
-use Rattle.record.specs.declared.Body.{Body}
 use Rattle.record.specs.declared.Body.TheVariants as Bo
 use Rattle.record.specs.declared.HgvsVariant.{HgvsVariant}
 use Rattle.record.specs.declared.Refusal.{Refusal}
@@ -35,11 +20,8 @@ use Rattle.record.specs.declared.Refusal.TheVariants.{TooLong, NotInGrammar, Doe
 use Rattle.record.specs.declared.ReadAnswer.TheVariants as R
 use Rattle.record.specs.declared.WriteAnswer.TheVariants as W
 use Rattle.record.specs.declared.WidthAnswer.TheVariants as M
-use Rattle.grammar.specs.Shapes.{Mu.uncertain, print_mu}
-use Rattle.grammar.specs.Values.{NaEditV.ref_alt, NaEditV.num_alt, NaEditV.del_ref, NaEditV.del_num, NaEditV.ins_v, NaEditV.dup_v, NaEditV.inv_ref, NaEditV.inv_num}
-use Rattle.promise.specs.Outcome.{Outcome, outcome_number, outcome_place, outcome_value, refusal_outcome, read_outcome, write_outcome, width_outcome, limit}
-use Rattle.promise.specs.NoRef.{no_ref_edit}
-use Rattle.promise.specs.Width.{width_between, body_width}
+use Rattle.promise.specs.Outcome.{refusal_outcome, read_outcome, write_outcome, width_outcome}
+use Rattle.promise.specs.Width.{width_between}
 use Rattle.promise.specs.Examples.{told, values, no_refs, widths}
 
 -- of an accepted record v, and a misfit at a place

@@ -1,10 +1,7 @@
 -- Document 01's tables row by row: the number and place of each answer, reference-free edits, widths at the edges.
-use Rattle.std.specs.Prelude.{ℕ, refl, List, [], ◌∷◌, ℤ, pos, negsuc}
+use Rattle.std.specs.Prelude.{ℕ, List, [], ◌∷◌, ℤ, pos, negsuc}
 use Rattle.std.proofs.Math.Option.{Option, none, some}
 use Rattle.texts.specs.Ascii.{ascii}
-use Rattle.texts.specs.Words.{same}
-use Rattle.texts.specs.Tables.{Each}
-use Rattle.texts.proofs.Tables.{Agree, agreed}
 use Rattle.record.specs.declared.Span.{Span}
 use Rattle.record.specs.declared.Offset.{Offset}
 use Rattle.record.specs.declared.Offset.TheVariants.{Absent, By}
@@ -29,17 +26,15 @@ use Rattle.record.specs.declared.MuProteinEdit.TheVariants as MuPr
 use Rattle.record.specs.declared.ProtLocEdit.TheVariants.{Ordinary, NoChange, NoChangeUncertain, NoProtein, NoProteinUncertain, Unknown, InitiationUncertain}
 use Rattle.record.specs.declared.Body.{Body}
 use Rattle.record.specs.declared.Body.TheVariants as Bo
-use Rattle.record.specs.declared.HgvsVariant.{HgvsVariant}
-use Rattle.record.specs.declared.Refusal.{Refusal}
-use Rattle.record.specs.declared.Refusal.TheVariants.{TooLong, NotInGrammar, DoesNotFit, BadSpan, NoText, NoRoom, NoWidth, BadLine}
+use Rattle.record.specs.declared.Refusal.TheVariants.{NoRoom, NoWidth}
 use Rattle.record.specs.declared.ReadAnswer.TheVariants as R
 use Rattle.record.specs.declared.WriteAnswer.TheVariants as W
 use Rattle.record.specs.declared.WidthAnswer.TheVariants as M
 use Rattle.grammar.specs.Shapes.{Mu.uncertain, print_mu}
 use Rattle.grammar.specs.Values.{NaEditV.ref_alt, NaEditV.num_alt, NaEditV.del_ref, NaEditV.del_num, NaEditV.ins_v, NaEditV.dup_v, NaEditV.inv_ref, NaEditV.inv_num}
-use Rattle.promise.specs.Outcome.{Outcome, outcome_number, outcome_place, outcome_value, refusal_outcome, read_outcome, write_outcome, width_outcome, limit}
+use Rattle.promise.specs.Outcome.{Outcome, outcome_number, outcome_place, outcome_value, write_outcome, width_outcome, limit}
 use Rattle.promise.specs.NoRef.{no_ref_edit}
-use Rattle.promise.specs.Width.{width_between, body_width}
+use Rattle.promise.specs.Width.{body_width}
 
 -- ---- numbers given back
 abbrev pub told : {A : Type 0} → Outcome A → ℕ × ℕ

@@ -1,7 +1,7 @@
 -- From the answer for what stands behind an opening bracket, or at the front where there is none, to the answer for it in brackets or not.
 use Rattle.std.specs.Prelude.{ℕ, ◌+◌, ◌≤◌, ◌≡◌, List, Bool, length, drop}
 use Rattle.std.proofs.Common.{ap, ◌∙◌, add-zero}
-use Rattle.std.proofs.Math.Option.{Option, none, some}
+use Rattle.std.proofs.Math.Option.{none, some}
 use Rattle.texts.specs.Slices.{tail}
 use Rattle.texts.proofs.Slices.{tail_part}
 use Rattle.texts.specs.Brackets.{opening}

@@ -1,5 +1,5 @@
 -- The opening bracket at the front of a text: how long it is.
-use Rattle.std.specs.Prelude.{ℕ, ◌≤◌, List, Bool, cond}
+use Rattle.std.specs.Prelude.{ℕ, ◌≤◌, List, Bool}
 use Rattle.std.proofs.Math.Path.{◌≡◌, refl}
 use Rattle.std.proofs.Math.Bool.{true, false}
 use Rattle.std.proofs.Common.{arith}

@@ -1,12 +1,10 @@
 -- What the definitions make of some texts.
-use Rattle.std.specs.Prelude.{ℕ, ◌<◌, refl, List, [], ◌∷◌, Bool, true, false, eqb}
+use Rattle.std.specs.Prelude.{◌<◌, refl}
 use Prim.Native.Char.{code}
 use Rattle.std.proofs.Common.{arith}
-use Rattle.texts.specs.Ascii.{ascii}
 use Rattle.texts.specs.Runs.{every, run, front, behind}
-use Rattle.texts.specs.Words.{starts, same, one_each}
+use Rattle.texts.specs.Words.{starts, same}
 use Rattle.texts.specs.Brackets.{opening}
-use Rattle.texts.specs.Slices.{tail}
 use Rattle.texts.specs.Best.{Best, Best.shorter, Best.first, Before.less, Before.next}
 use Rattle.texts.specs.Tables.{Each}
 use Rattle.texts.proofs.Tables.{Agree, agreed}

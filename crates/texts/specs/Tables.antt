@@ -1,5 +1,5 @@
 -- Tables, and a statement that holds of each of their rows.
-use Rattle.std.specs.Prelude.{◌≡◌, List, [], ◌∷◌, map}
+use Rattle.std.specs.Prelude.{List, [], ◌∷◌}
 
 -- P holds of each row
 abbrev pub Each : {A : Type 0} → (A → Type 0) → List A → Type 0

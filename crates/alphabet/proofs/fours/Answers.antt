@@ -1,9 +1,7 @@
 -- The loop's invariant: the run of the whole text is the bytes passed and the run of what is left.
-use Prim.Native.Nat.{◌+◌, ◌≤◌, ◌-◌}
-use mathlib.Core.Path.{◌≡◌, ◌∙◌}
-use lib.ListN.{length, drop}
+use Prim.Native.Nat.{◌-◌}
+use mathlib.Core.Path.{◌∙◌}
 use borrow.Author.Rules.{rules}
-use Rattle.texts.specs.Runs.{run}
 use Rattle.texts.proofs.Runs.{run_four_more}
 use Rattle.alphabet.specs.Classes.{member}
 use Rattle.alphabet.proofs.Flags.{four_flags}

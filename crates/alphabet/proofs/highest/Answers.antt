@@ -1,5 +1,4 @@
 use mathlib.Core.Path.{refl}
-use borrow.Author.Rules.{rules}
 use Rattle.alphabet.specs.Cells.{highest}
 use Rattle.alphabet.proofs.highest.Goals as goal
 

@@ -1,5 +1,4 @@
 use mathlib.Core.Path.{refl}
-use borrow.Author.Rules.{rules}
 use Rattle.alphabet.specs.Cells.{lowest}
 use Rattle.alphabet.proofs.lowest.Goals as goal
 

@@ -1,11 +1,9 @@
 -- The loop's invariant: the run of the whole text is the bytes passed and the run of what is left.
-use Prim.Native.Nat.{◌+◌, ◌≤◌, ◌-◌}
+use Prim.Native.Nat.{◌-◌}
 use mathlib.Core.Path.{◌≡◌, sym, ◌∙◌}
 use mathlib.Core.Bool.{true, false}
-use lib.ListN.{length, drop, get_or}
+use lib.ListN.{get_or}
 use borrow.Author.Rules.{rules}
-use borrow.Author.Tests.{not-true, not-false}
-use Rattle.texts.specs.Runs.{run}
 use Rattle.texts.proofs.Runs.{run_more, run_stop, run_end}
 use Rattle.alphabet.specs.Classes.{member}
 use Rattle.alphabet.proofs.run_of.Goals as goal

@@ -1,11 +1,7 @@
 use Prim.Native.Nat.{◌+◌, ◌≤◌, ◌-◌}
-use mathlib.Core.Path.{◌≡◌, sym, ◌∙◌}
-use mathlib.Core.Bool.{true, false}
-use lib.ListN.{length, drop, get_or}
-use borrow.Author.Rules.{rules}
-use borrow.Author.Tests.{not-true, not-false}
+use mathlib.Core.Path.{◌≡◌}
+use lib.ListN.{length, drop}
 use Rattle.texts.specs.Runs.{run}
-use Rattle.texts.proofs.Runs.{run_more, run_stop, run_end}
 use Rattle.alphabet.specs.Classes.{member}
 use Rattle.alphabet.proofs.run_of.Given as goal
 

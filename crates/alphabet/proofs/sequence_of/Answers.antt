@@ -1,7 +1,6 @@
 use Prim.Native.Nat.{◌+◌}
 use mathlib.Core.Path.{◌≡◌, ap}
 use native.Mathlib.Omega.{arith}
-use borrow.Author.Rules.{rules}
 use Rattle.texts.specs.Runs.{run}
 use Rattle.texts.proofs.Runs.{run_le}
 use Rattle.texts.proofs.Slices.{tail_part}

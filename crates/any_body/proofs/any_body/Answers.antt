@@ -1,4 +1,3 @@
-use borrow.Author.Rules.{rules}
 use Rattle.any_body.proofs.any_body.Goals as goal
 
 pub returns-in-Cds : goal.returns-in-Cds

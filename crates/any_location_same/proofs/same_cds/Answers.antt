@@ -1,6 +1,5 @@
 use mathlib.Core.Bool.{and_assoc}
 use Rattle.texts.proofs.Tests.{both_fail, both_next}
-use borrow.Author.Rules.{rules}
 use Rattle.any_location_same.proofs.same_cds.Goals as goal
 
 pub returns-then-same_based : goal.returns-then-same_based

@@ -1,4 +1,3 @@
-use borrow.Author.Rules.{rules}
 use Rattle.any_location_same.proofs.same_genomic.Goals as goal
 
 pub returns-then-p : goal.returns-then-p

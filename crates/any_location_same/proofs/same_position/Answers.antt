@@ -1,7 +1,6 @@
 use mathlib.Core.Path.{◌∙◌}
 use Rattle.any_location_same.specs.Same.{same_position}
 use Rattle.any_location_same.proofs.MayBeUnknown.{genome_same, mt_same}
-use borrow.Author.Rules.{rules}
 use Rattle.any_location_same.proofs.same_position.Goals as goal
 
 pub returns-in-Cds : goal.returns-in-Cds

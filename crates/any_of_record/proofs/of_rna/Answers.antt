@@ -1,4 +1,3 @@
-use borrow.Author.Rules.{rules}
 use Rattle.any_of_record.proofs.of_rna.Goals as goal
 
 pub returns-in-Certain : goal.returns-in-Certain

@@ -1,7 +1,6 @@
 use Rattle.any_record.proofs.BodyCases.{made_cds, made_genome, made_mt, made_tx, made_rna}
 use mathlib.Core.Path.{sym, ap}
 use Rattle.any_record.specs.RecordBodies.{loc_edit}
-use borrow.Author.Rules.{rules}
 use Rattle.any_record.proofs.loc_edit.Goals as goal
 
 pub returns-in-Cds : goal.returns-in-Cds

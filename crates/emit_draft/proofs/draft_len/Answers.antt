@@ -1,6 +1,5 @@
 use native.Mathlib.Omega.{arith}
 use Rattle.emit_draft.specs.DraftLengths.{draft_length}
-use borrow.Author.Rules.{rules}
 use Rattle.emit_draft.proofs.draft_len.Goals as goal
 
 pub returns : goal.returns

@@ -2,7 +2,6 @@ use native.Mathlib.Omega.{arith}
 use Rattle.emit_draft.specs.Texts.{body_text}
 use Rattle.emit_draft.specs.DraftLengths.{body_length}
 use Rattle.lent.specs.Put.{then}
-use borrow.Author.Rules.{rules}
 use Rattle.emit_draft.proofs.put_body.Goals as goal
 
 pub put_location-at-requires : goal.put_location-at-requires

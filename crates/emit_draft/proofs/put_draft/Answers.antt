@@ -2,7 +2,6 @@ use native.Mathlib.Omega.{arith}
 use Rattle.emit_draft.specs.Texts.{draft_text}
 use Rattle.emit_draft.specs.DraftLengths.{draft_length}
 use Rattle.lent.specs.Put.{then}
-use borrow.Author.Rules.{rules}
 use Rattle.emit_draft.proofs.put_draft.Goals as goal
 
 pub put_heading-at-requires : goal.put_heading-at-requires

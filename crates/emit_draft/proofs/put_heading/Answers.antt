@@ -2,7 +2,6 @@ use native.Mathlib.Omega.{arith}
 use Rattle.emit_draft.specs.Texts.{heading_text}
 use Rattle.emit_draft.specs.DraftLengths.{heading_length}
 use Rattle.lent.specs.Put.{then}
-use borrow.Author.Rules.{rules}
 use Rattle.emit_draft.proofs.put_heading.Goals as goal
 
 pub put_part-at-requires : goal.put_part-at-requires

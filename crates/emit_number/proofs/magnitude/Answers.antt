@@ -1,4 +1,3 @@
-use borrow.Author.Rules.{rules}
 use mir.Facts.{to_z-of_z, sfits_widen, Fits-nat_abs}
 use Rattle.numerals.proofs.Widened.{negation, negation_fits, widened}
 use Rattle.emit_number.proofs.BelowZero.{Below, below_zero, not_below_zero}

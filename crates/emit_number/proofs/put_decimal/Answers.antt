@@ -1,11 +1,8 @@
 -- The invariant: once the digits of `rest` stand at `at`, those of v do.
-use Prim.Native.Nat.{◌+◌, ◌/◌, ◌<◌}
-use mathlib.Core.Path.{◌≡◌, refl, ◌∙◌}
+use Prim.Native.Nat.{◌/◌}
+use mathlib.Core.Path.{refl, ◌∙◌}
 use native.Mathlib.Omega.{arith}
-use borrow.Author.Rules.{rules}
-use lib.ListN.{length, length-set}
-use Rattle.lent.specs.Put.{put}
-use Rattle.numerals.specs.Digits.{dec}
+use lib.ListN.{length-set}
 use Rattle.numerals.proofs.Decimals.{dec_some, dec_more_length}
 use Rattle.emit_number.proofs.LastDigitFirst.{last_digit, only_digit}
 use Rattle.emit_number.proofs.put_decimal.Goals as goal

@@ -1,12 +1,8 @@
-use Prim.Native.Nat.{◌+◌, ◌/◌, ◌<◌}
-use mathlib.Core.Path.{◌≡◌, refl, ◌∙◌}
-use native.Mathlib.Omega.{arith}
-use borrow.Author.Rules.{rules}
-use lib.ListN.{length, length-set}
+use Prim.Native.Nat.{◌+◌, ◌<◌}
+use mathlib.Core.Path.{◌≡◌}
+use lib.ListN.{length}
 use Rattle.lent.specs.Put.{put}
 use Rattle.numerals.specs.Digits.{dec}
-use Rattle.numerals.proofs.Decimals.{dec_some, dec_more_length}
-use Rattle.emit_number.proofs.LastDigitFirst.{last_digit, only_digit}
 use Rattle.emit_number.proofs.put_decimal.Given as goal
 
 abbrev pub invariant-loop-rest : goal.invariant-loop-rest

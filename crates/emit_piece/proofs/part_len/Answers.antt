@@ -1,6 +1,5 @@
 use mathlib.Core.Path.{ap}
 use lib.ListN.{length}
-use borrow.Author.Rules.{rules}
 use native.Mathlib.Omega.{arith}
 use Rattle.emit_piece.specs.PartLengths.{part_short}
 use Rattle.emit_piece.proofs.part_len.Goals as goal

@@ -1,6 +1,5 @@
 use mathlib.Core.Path.{sym}
 use native.Mathlib.Omega.{arith}
-use borrow.Author.Rules.{rules}
 use Rattle.lent.specs.Put.{put_none}
 use Rattle.emit_piece.proofs.put_amount.Goals as goal
 

@@ -1,6 +1,5 @@
 use mathlib.Core.Path.{refl, sym}
 use native.Mathlib.Omega.{arith}
-use borrow.Author.Rules.{rules}
 use Rattle.lent.specs.Put.{put_none, put_byte}
 use Rattle.emit_piece.proofs.put_byte.Goals as goal
 

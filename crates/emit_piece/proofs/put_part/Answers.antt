@@ -1,4 +1,3 @@
-use borrow.Author.Rules.{rules}
 use Rattle.emit_piece.proofs.put_part.Goals as goal
 
 pub put_bytes-requires : goal.put_bytes-requires

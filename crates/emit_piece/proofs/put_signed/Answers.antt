@@ -1,6 +1,5 @@
 use native.Mathlib.Omega.{arith}
 use lib.ListN.{length-append}
-use borrow.Author.Rules.{rules}
 use Rattle.lent.specs.Put.{then}
 use Rattle.emit_piece.specs.Texts.{byte_text, amount_text}
 use Rattle.emit_piece.proofs.put_signed.Goals as goal

@@ -1,6 +1,5 @@
 use native.Mathlib.Omega.{arith}
 use lib.ListN.{length-append}
-use borrow.Author.Rules.{rules}
 use Rattle.emit_piece.specs.Texts.{byte_text, amount_text}
 use Rattle.emit_piece.proofs.signed_len.Goals as goal
 

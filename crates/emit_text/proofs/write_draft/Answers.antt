@@ -4,7 +4,6 @@ use lib.ListN.{length}
 use Rattle.record.specs.declared.WriteAnswer.TheVariants.{Written}
 use Rattle.emit_draft.specs.Texts.{draft_text}
 use Rattle.emit_text.specs.Answered.{too_long, no_room, written}
-use borrow.Author.Rules.{rules}
 use Rattle.emit_text.proofs.write_draft.Goals as goal
 
 pub returns-then-n-gt4096 : goal.returns-then-n-gt4096

@@ -1,7 +1,5 @@
 use Prim.Native.Nat.{◌+◌}
 use mathlib.Core.Path.{◌≡◌}
-use native.Mathlib.Omega.{arith}
-use borrow.Author.Rules.{rules}
 use Rattle.emit_word.specs.Words.{word_text, words}
 use Rattle.emit_word.proofs.WordParts.{word_part}
 use Rattle.grammar.specs.Spans.{part}

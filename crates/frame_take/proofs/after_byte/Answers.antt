@@ -1,6 +1,5 @@
 -- The tests, one after the other.
 use mathlib.Core.Path.{sym, ◌∙◌}
-use borrow.Author.Rules.{rules}
 use Rattle.frames.specs.Taking.{Standing}
 use Rattle.frames.proofs.Bytes.{after_end, after_other, after_bad, after_full, after_first, after_second}
 use Rattle.frame_take.proofs.ByteTests.{is_other, is_digit, with_state_lem}

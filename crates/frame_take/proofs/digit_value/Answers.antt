@@ -1,5 +1,4 @@
 -- The tests, from the lowest bound to the highest.
-use borrow.Author.Rules.{rules}
 use Rattle.frame_take.proofs.ByteTests.{below_digits, decimal_digit, below_upper, upper_digit, below_lower, lower_digit, above_digits}
 use Rattle.frame_take.proofs.digit_value.Goals as goal
 

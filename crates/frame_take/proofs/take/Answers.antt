@@ -1,9 +1,8 @@
 -- The invariant: what is taken of the whole piece is the bytes passed and what is taken of the rest.
-use Prim.Native.Nat.{◌+◌, ◌≤◌, ◌-◌}
-use mathlib.Core.Path.{◌≡◌, refl, sym, ap, ◌∙◌}
+use Prim.Native.Nat.{◌+◌, ◌-◌}
+use mathlib.Core.Path.{refl, sym, ap, ◌∙◌}
 use native.Mathlib.Omega.{arith}
-use lib.ListN.{length, drop}
-use borrow.Author.Rules.{rules}
+use lib.ListN.{drop}
 use Rattle.frames.specs.Taking.{Standing, behind, takes}
 use Rattle.frame_take.proofs.ByteTests.{takes_start, takes_stop, takes_more, takes_end, told_of}
 use Rattle.frame_take.proofs.take.Goals as goal

@@ -1,10 +1,7 @@
-use Prim.Native.Nat.{◌+◌, ◌≤◌, ◌-◌}
-use mathlib.Core.Path.{◌≡◌, refl, sym, ap, ◌∙◌}
-use native.Mathlib.Omega.{arith}
+use Prim.Native.Nat.{◌≤◌, ◌-◌}
+use mathlib.Core.Path.{◌≡◌}
 use lib.ListN.{length, drop}
-use borrow.Author.Rules.{rules}
-use Rattle.frames.specs.Taking.{Standing, behind, takes}
-use Rattle.frame_take.proofs.ByteTests.{takes_start, takes_stop, takes_more, takes_end, told_of}
+use Rattle.frames.specs.Taking.{behind, takes}
 use Rattle.frame_take.proofs.take.Given as goal
 
 abbrev pub invariant-loop-i : goal.invariant-loop-i

@@ -2,8 +2,6 @@
 use Prim.Native.Nat.{◌+◌, ◌≤◌}
 use mathlib.Core.Path.{sym, ◌∙◌}
 use native.Mathlib.Omega.{arith}
-use borrow.Author.Rules.{rules}
-use borrow.Author.Tests.{not-true, not-false}
 use lib.ListN.{length}
 use Rattle.alphabet.specs.Classes.{member}
 use Rattle.header_lengths.proofs.CountedParts.{no_accession_end, no_initial, no_name, name_le, suffix_le, version_le, accession_is}

@@ -1,10 +1,10 @@
 -- The invariant: the first i bytes of the text are written, and nothing else has changed.
-use Prim.Native.Nat.{◌≤◌, ◌-◌}
+use Prim.Native.Nat.{◌-◌}
 use mathlib.Core.Path.{◌≡◌, refl, ◌∙◌}
 use native.Mathlib.Omega.{arith}
 use native.Mathlib.Numerals.{add-one}
 use lib.ListN.{length, length-set}
-use lib.Seq.{paste, paste-zero, paste-suc}
+use lib.Seq.{paste-zero, paste-suc}
 use Rattle.lent.specs.Put.{put_paste}
 use Rattle.lent.proofs.put_bytes.Goals as goal
 

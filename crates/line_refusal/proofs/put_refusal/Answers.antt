@@ -2,7 +2,6 @@ use native.Mathlib.Omega.{arith}
 use Rattle.lent.specs.Put.{then}
 use Rattle.line_promise.specs.LineAnswers.{refusal}
 use Rattle.line_refusal.proofs.RefusalLength.{refusal_length}
-use borrow.Author.Rules.{rules}
 use Rattle.line_refusal.proofs.put_refusal.Goals as goal
 
 pub put_bytes-a-requires : goal.put_bytes-a-requires

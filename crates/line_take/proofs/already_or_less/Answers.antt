@@ -1,5 +1,4 @@
 -- The two tests, one after the other.
-use borrow.Author.Rules.{rules}
 use Rattle.line_take.proofs.already_or_less.Goals as goal
 
 pub returns : goal.returns

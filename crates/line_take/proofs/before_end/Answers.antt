@@ -1,11 +1,8 @@
 -- The invariant: the run of the whole piece is the bytes passed and the run of what is left.
-use Prim.Native.Nat.{◌+◌, ◌≤◌, ◌-◌}
-use mathlib.Core.Path.{◌≡◌, sym, ◌∙◌}
+use Prim.Native.Nat.{◌-◌}
+use mathlib.Core.Path.{sym, ◌∙◌}
 use native.Mathlib.Omega.{arith}
-use lib.ListN.{length, drop}
-use borrow.Author.Rules.{rules}
 use borrow.Author.Tests.{eq-eqb, ne_eqb}
-use Rattle.texts.specs.Runs.{run}
 use Rattle.texts.proofs.Runs.{run_more, run_stop, run_end}
 use Rattle.lines.specs.Taking.{in_line}
 use Rattle.line_take.proofs.before_end.Goals as goal

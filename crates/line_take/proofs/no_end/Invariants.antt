@@ -1,13 +1,9 @@
 use Prim.Native.Nat.{◌≤◌, ◌-◌}
-use mathlib.Core.Path.{◌≡◌, refl, sym, ◌∙◌}
+use mathlib.Core.Path.{◌≡◌}
 use mathlib.Core.Bool.{◌&&◌}
-use mathlib.Core.Logic.{⊎_elim}
-use native.Mathlib.Omega.{arith}
 use lib.ListN.{length, drop}
-use borrow.Author.Tests.{eq-eqb, ne_eqb}
 use Rattle.texts.specs.Runs.{every}
 use Rattle.lines.specs.Taking.{in_line}
-use Rattle.line_take.proofs.TakingParts.{every_passes, every_fails, every_end}
 use Rattle.line_take.proofs.no_end.Given as goal
 
 abbrev pub invariant-loop-j : goal.invariant-loop-j

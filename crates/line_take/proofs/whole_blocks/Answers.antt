@@ -1,11 +1,7 @@
 -- The invariant is what is given back: the run of the whole piece is the bytes passed and the run of what is left.
-use Prim.Native.Nat.{◌+◌, ◌≤◌, ◌-◌}
-use mathlib.Core.Path.{◌≡◌, sym, ◌∙◌}
+use Prim.Native.Nat.{◌+◌, ◌-◌}
+use mathlib.Core.Path.{sym, ◌∙◌}
 use native.Mathlib.Omega.{arith}
-use lib.ListN.{length, drop}
-use borrow.Author.Rules.{rules}
-use borrow.Author.Tests.{not-false}
-use Rattle.texts.specs.Runs.{run}
 use Rattle.lines.specs.Taking.{in_line}
 use Rattle.line_take.proofs.TakingParts.{run_block}
 use Rattle.line_take.proofs.whole_blocks.Goals as goal

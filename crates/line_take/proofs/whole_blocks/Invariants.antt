@@ -1,12 +1,8 @@
 use Prim.Native.Nat.{◌+◌, ◌≤◌, ◌-◌}
-use mathlib.Core.Path.{◌≡◌, sym, ◌∙◌}
-use native.Mathlib.Omega.{arith}
+use mathlib.Core.Path.{◌≡◌}
 use lib.ListN.{length, drop}
-use borrow.Author.Rules.{rules}
-use borrow.Author.Tests.{not-false}
 use Rattle.texts.specs.Runs.{run}
 use Rattle.lines.specs.Taking.{in_line}
-use Rattle.line_take.proofs.TakingParts.{run_block}
 use Rattle.line_take.proofs.whole_blocks.Given as goal
 
 abbrev pub invariant-loop-i : goal.invariant-loop-i

@@ -1,4 +1,3 @@
-use borrow.Author.Rules.{rules}
 use Rattle.measure_body.proofs.body_width.Goals as goal
 
 pub returns-in-Nucleotide : goal.returns-in-Nucleotide

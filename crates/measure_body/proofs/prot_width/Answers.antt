@@ -1,6 +1,5 @@
 use Rattle.record.specs.declared.Kind.TheVariants.{Prot}
 use Rattle.measure_body.specs.Widths.{measured}
-use borrow.Author.Rules.{rules}
 use Rattle.measure_body.proofs.prot_width.Goals as goal
 
 pub returns-in-Ordinary : goal.returns-in-Ordinary

@@ -1,6 +1,5 @@
 use mir.Syntax.{w32}
 use mir.Facts.{to_z-of_z}
-use borrow.Author.Rules.{rules}
 use Rattle.measure_location.proofs.index_of.Goals as goal
 
 pub returns-then-bases : goal.returns-then-bases

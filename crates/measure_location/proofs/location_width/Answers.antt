@@ -1,4 +1,3 @@
-use borrow.Author.Rules.{rules}
 use Rattle.measure_location.proofs.location_width.Goals as goal
 
 pub returns : goal.returns

@@ -1,4 +1,3 @@
-use borrow.Author.Rules.{rules}
 use Rattle.numbered.proofs.of_refusal.Goals as goal
 
 pub returns-in-TooLong : goal.returns-in-TooLong

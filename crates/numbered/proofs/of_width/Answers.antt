@@ -1,4 +1,3 @@
-use borrow.Author.Rules.{rules}
 use Rattle.numbered.proofs.of_width.Goals as goal
 
 pub returns-in-Width : goal.returns-in-Width

@@ -1,4 +1,3 @@
-use borrow.Author.Rules.{rules}
 use Rattle.numbered.proofs.of_write.Goals as goal
 
 pub returns-in-Written : goal.returns-in-Written

@@ -3,7 +3,6 @@ use Prim.Native.Nat.{◌≤◌}
 use mathlib.Core.Path.{sym, ◌∙◌}
 use lib.ListN.{length}
 use Rattle.parts.proofs.SpanTests.{inside_true, inside_part, outside_part}
-use borrow.Author.Rules.{rules}
 use Rattle.parts.proofs.part_of.Goals as goal
 
 pub slice_bounds-result-count : goal.slice_bounds-result-count

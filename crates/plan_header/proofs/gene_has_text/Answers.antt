@@ -1,4 +1,3 @@
-use borrow.Author.Rules.{rules}
 use Rattle.plan_header.proofs.gene_has_text.Goals as goal
 
 pub returns-in-Present : goal.returns-in-Present

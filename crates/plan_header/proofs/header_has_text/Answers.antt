@@ -3,7 +3,6 @@ use mathlib.Core.Bool.{true, false}
 use Rattle.grammar.specs.Spans.{part, optional_part}
 use Rattle.lang_headers.specs.Canonical.{is_gene}
 use Rattle.plan_header.specs.HeaderText.{has_text}
-use borrow.Author.Rules.{rules}
 use Rattle.plan_header.proofs.header_has_text.Goals as goal
 
 pub returns-then-gene_has_text : goal.returns-then-gene_has_text

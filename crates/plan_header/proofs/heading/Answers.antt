@@ -1,4 +1,3 @@
-use borrow.Author.Rules.{rules}
 use Rattle.plan_header.proofs.heading.Goals as goal
 
 pub returns-in-Absent : goal.returns-in-Absent

@@ -1,5 +1,4 @@
 use Rattle.plan_header.proofs.WholeRuns.{accession_empty, accession_whole}
-use borrow.Author.Rules.{rules}
 use Rattle.plan_header.proofs.is_accession.Goals as goal
 
 pub returns-then-s-eq0 : goal.returns-then-s-eq0

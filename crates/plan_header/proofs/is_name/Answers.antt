@@ -1,5 +1,4 @@
 use Rattle.plan_header.proofs.WholeRuns.{name_empty, name_whole}
-use borrow.Author.Rules.{rules}
 use Rattle.plan_header.proofs.is_name.Goals as goal
 
 pub returns-then-s-eq0 : goal.returns-then-s-eq0

@@ -1,4 +1,3 @@
-use borrow.Author.Rules.{rules}
 use Rattle.plan_location.proofs.bracket.Goals as goal
 
 pub returns : goal.returns

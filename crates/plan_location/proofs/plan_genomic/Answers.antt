@@ -1,4 +1,3 @@
-use borrow.Author.Rules.{rules}
 use Rattle.plan_location.proofs.plan_genomic.Goals as goal
 
 pub returns-then-p : goal.returns-then-p

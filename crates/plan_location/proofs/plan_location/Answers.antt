@@ -2,7 +2,6 @@ use mathlib.Core.Path.{◌≡◌, sym, ◌∙◌}
 use mathlib.Core.Bool.{true, false}
 use Rattle.any_location_same.specs.Same.{same_position}
 use Rattle.plan_location.specs.Plan.{plan_location}
-use borrow.Author.Rules.{rules}
 use Rattle.plan_location.proofs.plan_location.Goals as goal
 
 pub returns-then-same_position : goal.returns-then-same_position

@@ -1,4 +1,3 @@
-use borrow.Author.Rules.{rules}
 use Rattle.plan_location.proofs.plan_position.Goals as goal
 
 pub returns-in-Cds : goal.returns-in-Cds

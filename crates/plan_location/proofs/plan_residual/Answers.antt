@@ -2,7 +2,6 @@ use mathlib.Core.Path.{◌≡◌, sym, ap, ◌∙◌}
 use mathlib.Core.Bool.{true, false}
 use Rattle.residue.specs.Residues.{is_residue}
 use Rattle.grammar.specs.Spans.{part}
-use borrow.Author.Rules.{rules}
 use Rattle.plan_location.proofs.plan_residual.Goals as goal
 
 pub returns-then-is_residue : goal.returns-then-is_residue

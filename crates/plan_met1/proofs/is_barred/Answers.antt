@@ -1,7 +1,5 @@
 use mathlib.Core.Path.{sym, ◌∙◌}
-use borrow.Author.Tests.{not-true, not-false}
 use Rattle.plan_met1.specs.Met1.{is_barred}
-use borrow.Author.Rules.{rules}
 use Rattle.plan_met1.proofs.is_barred.Goals as goal
 
 pub returns-then-not-is_alike : goal.returns-then-not-is_alike

@@ -1,4 +1,3 @@
-use borrow.Author.Rules.{rules}
 use Rattle.plan_met1.proofs.is_unknown.Goals as goal
 
 pub returns-in-Subst : goal.returns-in-Subst

@@ -1,4 +1,3 @@
-use borrow.Author.Rules.{rules}
 use Rattle.plan_met1.proofs.spells.Goals as goal
 
 pub returns : goal.returns

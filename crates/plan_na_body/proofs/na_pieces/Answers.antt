@@ -1,6 +1,5 @@
 use mathlib.Core.Path.{sym, ◌∙◌}
 use Rattle.plan_na_body.specs.Plan.{na_pieces}
-use borrow.Author.Rules.{rules}
 use Rattle.plan_na_body.proofs.na_pieces.Goals as goal
 
 pub returns-in-Shortest : goal.returns-in-Shortest

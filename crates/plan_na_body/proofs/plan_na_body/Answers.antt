@@ -1,4 +1,3 @@
-use borrow.Author.Rules.{rules}
 use Rattle.plan_na_body.proofs.plan_na_body.Goals as goal
 
 pub returns : goal.returns

@@ -1,6 +1,5 @@
 use mathlib.Core.Path.{sym, ◌∙◌}
 use Rattle.plan_na_edit.specs.Plan.{plan_change}
-use borrow.Author.Rules.{rules}
 use Rattle.plan_na_edit.proofs.plan_change.Goals as goal
 
 pub returns-then-same_parts : goal.returns-then-same_parts

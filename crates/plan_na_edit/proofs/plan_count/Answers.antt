@@ -1,7 +1,6 @@
 use mir.Syntax.{w32}
 use mathlib.Core.Path.{◌∙◌}
 use mir.Facts.{to_z-of_z}
-use borrow.Author.Rules.{rules}
 use Rattle.plan_na_edit.proofs.plan_count.Goals as goal
 
 pub returns : goal.returns

@@ -2,7 +2,6 @@ use mir.Syntax.{w32}
 use mathlib.Core.Path.{sym, ◌∙◌}
 use mir.Facts.{to_z-of_z}
 use Rattle.plan_na_edit.specs.Plan.{plan_num_alt}
-use borrow.Author.Rules.{rules}
 use Rattle.plan_na_edit.proofs.plan_num_alt.Goals as goal
 
 pub returns-then-is_seq1 : goal.returns-then-is_seq1

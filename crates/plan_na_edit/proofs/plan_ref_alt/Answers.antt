@@ -1,7 +1,5 @@
 use mathlib.Core.Path.{sym, ◌∙◌}
-use borrow.Author.Tests.{not-true, not-false}
 use Rattle.plan_na_edit.specs.Plan.{plan_ref_alt}
-use borrow.Author.Rules.{rules}
 use Rattle.plan_na_edit.proofs.plan_ref_alt.Goals as goal
 
 pub returns-then-not-is_seq : goal.returns-then-not-is_seq

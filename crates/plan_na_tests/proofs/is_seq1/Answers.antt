@@ -1,5 +1,4 @@
 use Rattle.texts.proofs.Tests.{both_fail, both_next}
-use borrow.Author.Rules.{rules}
 use Rattle.plan_na_tests.proofs.is_seq1.Goals as goal
 
 pub returns-then-is_seq : goal.returns-then-is_seq

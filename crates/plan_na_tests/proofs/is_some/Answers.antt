@@ -1,4 +1,3 @@
-use borrow.Author.Rules.{rules}
 use Rattle.plan_na_tests.proofs.is_some.Goals as goal
 
 pub returns : goal.returns

@@ -1,5 +1,4 @@
 use borrow.Author.Tests.{ne_eqb}
-use borrow.Author.Rules.{rules}
 use Rattle.plan_na_tests.proofs.one_each_parts.Goals as goal
 
 pub returns-then-part_len-eq1 : goal.returns-then-part_len-eq1

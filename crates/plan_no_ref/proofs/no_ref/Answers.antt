@@ -1,4 +1,3 @@
-use borrow.Author.Rules.{rules}
 use Rattle.plan_no_ref.proofs.no_ref.Goals as goal
 
 pub returns-in-RefAlt : goal.returns-in-RefAlt

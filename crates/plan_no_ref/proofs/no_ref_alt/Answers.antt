@@ -1,6 +1,5 @@
 use mathlib.Core.Path.{sym, ◌∙◌}
 use Rattle.plan_no_ref.specs.NoRef.{no_ref_alt}
-use borrow.Author.Rules.{rules}
 use Rattle.plan_no_ref.proofs.no_ref_alt.Goals as goal
 
 pub returns-then-same_parts : goal.returns-then-same_parts

@@ -1,7 +1,6 @@
 -- The accession, then the gene in its brackets or none.
 use Prim.Native.Nat.{◌+◌, ◌≤◌}
 use native.Mathlib.Omega.{arith}
-use borrow.Author.Rules.{rules}
 use lib.ListN.{length}
 use Rattle.header_lengths.specs.Lengths.{accession_le}
 use Rattle.read_header.proofs.HeaderCases.{gene_le, no_header, header_alone, header_gene}

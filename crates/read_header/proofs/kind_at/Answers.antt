@@ -1,6 +1,5 @@
 use Rattle.read_header.specs.HeaderAnswers.{kind_answer}
 use Rattle.read_header.proofs.HeaderCases.{kind_short, no_colon, no_stop, kind_letter_lem}
-use borrow.Author.Rules.{rules}
 use Rattle.read_header.proofs.kind_at.Goals as goal
 
 pub returns-then-s-lt3 : goal.returns-then-s-lt3

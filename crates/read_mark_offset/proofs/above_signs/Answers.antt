@@ -1,5 +1,4 @@
 use mathlib.Core.Path.{refl}
-use borrow.Author.Rules.{rules}
 use Rattle.read_mark_offset.specs.MarkOffsetAnswers.{above_signs}
 use Rattle.read_mark_offset.proofs.MarkOffsetCases.{none_below}
 use Rattle.read_mark_offset.proofs.above_signs.Goals as goal

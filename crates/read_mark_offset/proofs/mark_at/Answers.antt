@@ -3,7 +3,6 @@ use mathlib.Core.Bool.{false}
 use Rattle.texts.specs.Ascii.{ascii}
 use Rattle.texts.specs.Words.{starts}
 use Rattle.read_mark_offset.proofs.MarkOffsetCases.{mark_above, mark_plus, mark_minus, mark_star, mark_bare}
-use borrow.Author.Rules.{rules}
 use Rattle.read_mark_offset.proofs.mark_at.Goals as goal
 
 pub returns-then-above_signs : goal.returns-then-above_signs

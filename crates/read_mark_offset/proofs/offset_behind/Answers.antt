@@ -2,7 +2,6 @@ use mathlib.Core.Path.{◌∙◌}
 use native.Mathlib.Omega.{arith}
 use Rattle.read_scan.specs.Reading.{number_le}
 use Rattle.read_mark_offset.proofs.MarkOffsetCases.{behind_none, behind_some}
-use borrow.Author.Rules.{rules}
 use Rattle.read_mark_offset.proofs.offset_behind.Goals as goal
 
 pub returns-then-n-eq0 : goal.returns-then-n-eq0

@@ -14,7 +14,6 @@ use Rattle.lang_na_edits.specs.Parse.{inserted}
 use Rattle.read_scan.specs.Reading.{number_len}
 use Rattle.read_na_forms.proofs.Found.{found_word, found_del_ins}
 use Rattle.read_na_forms.proofs.NaFormCases.{counted_le, inserted_behind, inserted_within, del_ins_lem, del_digits, del_letters}
-use borrow.Author.Rules.{rules}
 use Rattle.read_na_del.proofs.after_del.Goals as goal
 
 pub slice_bounds-inserted-count : goal.slice_bounds-inserted-count

@@ -12,7 +12,6 @@ use Rattle.lang_na_edits.specs.Parse.{inserted}
 use Rattle.read_scan.specs.Reading.{number_run, number_le}
 use Rattle.read_na_forms.proofs.Found.{found_number, found_num_ins}
 use Rattle.read_na_forms.proofs.NaFormCases.{inserted_behind, inserted_within, del_num_lem, del_num_ins_lem}
-use borrow.Author.Rules.{rules}
 use Rattle.read_na_del.proofs.after_del_num.Goals as goal
 
 pub slice_bounds-inserted-count : goal.slice_bounds-inserted-count

@@ -13,7 +13,6 @@ use Rattle.grammar.specs.NucleotideEdits.{NaEditTree.inv_num, NaEditTree.inv}
 use Rattle.read_scan.specs.Reading.{number_len, number_le}
 use Rattle.read_na_forms.proofs.Found.{found_word, found_number}
 use Rattle.read_na_forms.proofs.NaFormCases.{counted_le, inv_digits, inv_letters}
-use borrow.Author.Rules.{rules}
 use Rattle.read_na_forms.proofs.after_inv.Goals as goal
 
 pub overflow_add-result : goal.overflow_add-result

@@ -15,7 +15,6 @@ use Rattle.grammar.specs.NucleotideEdits as Tree
 use Rattle.lang_na_edits.specs.Parse.{parse_dup}
 use Rattle.read_na_forms.proofs.Found.{found_word}
 use Rattle.read_na_forms.proofs.NaFormCases.{counted_le, word_long, word_room, word_found, word_nothing}
-use borrow.Author.Rules.{rules}
 use Rattle.read_na_forms.proofs.dup.Goals as goal
 
 pub slice_bounds-sequence_of-count : goal.slice_bounds-sequence_of-count

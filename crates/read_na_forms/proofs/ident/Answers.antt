@@ -10,10 +10,8 @@ use Rattle.texts.specs.Words.{starts}
 use Rattle.alphabet.specs.Letters.{nucleotide}
 use Rattle.alphabet.specs.Classes.{member}
 use Rattle.read_scan.specs.Accounts.{answered}
-use Rattle.read_na_forms.specs.NaEditAnswers.{na_edit_answer}
 use Rattle.read_na_forms.proofs.Found.{found_equal}
 use Rattle.read_na_forms.proofs.NaFormCases.{part_behind, counted_le, ident_some, ident_none}
-use borrow.Author.Rules.{rules}
 use Rattle.read_na_forms.proofs.ident.Goals as goal
 
 pub slice_bounds-begins-count : goal.slice_bounds-begins-count

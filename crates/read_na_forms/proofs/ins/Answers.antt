@@ -9,10 +9,8 @@ use Rattle.record.specs.declared.NaEdit.TheVariants.{Ins}
 use Rattle.grammar.specs.NucleotideEdits as Tree
 use Rattle.lang_na_edits.specs.Parse.{inserted}
 use Rattle.read_scan.specs.Accounts.{answered}
-use Rattle.read_na_forms.specs.NaEditAnswers.{na_edit_answer}
 use Rattle.read_na_forms.proofs.Found.{found_word}
 use Rattle.read_na_forms.proofs.NaFormCases.{inserted_le, ins_none, ins_some}
-use borrow.Author.Rules.{rules}
 use Rattle.read_na_forms.proofs.ins.Goals as goal
 
 pub returns-then-m-eq0 : goal.returns-then-m-eq0

@@ -6,7 +6,6 @@ use Rattle.texts.specs.Words.{starts}
 use Rattle.alphabet.specs.Letters.{nucleotide}
 use Rattle.alphabet.specs.Classes.{member}
 use Rattle.read_na_forms.proofs.NaFormCases.{word_long, inserted_some, inserted_none}
-use borrow.Author.Rules.{rules}
 use Rattle.read_na_forms.proofs.inserted.Goals as goal
 
 pub slice_bounds-sequence_of-count : goal.slice_bounds-sequence_of-count

@@ -3,14 +3,12 @@ use Prim.Native.Char.{code}
 use mathlib.Core.Path.{◌≡◌, sym, ◌∙◌}
 use mathlib.Core.Bool.{true, false}
 use lib.ListN.{get_or}
-use borrow.Author.Tests.{ne_eqb, not-true, not-false}
+use borrow.Author.Tests.{ne_eqb}
 use Rattle.alphabet.specs.Letters.{nucleotide}
 use Rattle.alphabet.specs.Classes.{member}
 use Rattle.read_scan.specs.Accounts.{answered}
-use Rattle.read_na_forms.specs.NaEditAnswers.{na_edit_answer}
 use Rattle.read_na_forms.proofs.Found.{found_swap}
 use Rattle.read_na_forms.proofs.NaFormCases.{subst_short, subst_is}
-use borrow.Author.Rules.{rules}
 use Rattle.read_na_forms.proofs.subst.Goals as goal
 
 pub returns-then-s-lt3 : goal.returns-then-s-lt3

@@ -1,4 +1,3 @@
-use borrow.Author.Rules.{rules}
 use Rattle.read_number.proofs.DigitLoops.{zero_missing, zero_there}
 use Rattle.read_number.proofs.begins_with_zero.Goals as goal
 

@@ -1,6 +1,5 @@
 use mathlib.Core.Path.{refl}
-use borrow.Author.Rules.{rules}
-use borrow.Author.Tests.{not-true, not-false, eq-eqb, ne_eqb}
+use borrow.Author.Tests.{eq-eqb, ne_eqb}
 use Rattle.read_number.proofs.is_plain.Goals as goal
 
 pub returns-then-not-zero : goal.returns-then-not-zero

@@ -1,5 +1,4 @@
 use mir.Syntax.{w32}
-use borrow.Author.Rules.{rules}
 use mir.Facts.{to_z-of_z}
 use Rattle.read_number.proofs.SignedValues.{negative_fits, negative_wide, negative_is}
 use Rattle.read_number.proofs.negative.Goals as goal

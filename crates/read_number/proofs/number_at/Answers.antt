@@ -1,18 +1,14 @@
 -- The invariant: the bytes passed are digits, and v is what they are worth, or too large as they are.
-use Prim.Native.Nat.{◌+◌, ◌-◌, ◌≤◌, min}
+use Prim.Native.Nat.{◌-◌}
 use mathlib.Core.Path.{◌≡◌, refl, sym, ◌∙◌}
 use mathlib.Core.Bool.{true, false}
 use native.Mathlib.Omega.{arith}
-use borrow.Author.Rules.{rules}
-use borrow.Author.Tests.{not-true, not-false}
-use lib.ListN.{length, get_or, take, drop}
-use Rattle.texts.specs.Runs.{run}
+use lib.ListN.{get_or}
 use Rattle.texts.proofs.Runs.{run_more, run_stop, run_end}
 use Rattle.alphabet.specs.Letters.{digit}
 use Rattle.alphabet.proofs.Apart.{digit_bounds}
 use Rattle.alphabet.specs.Classes.{member}
-use Rattle.numerals.specs.Digits.{val_from, val}
-use Rattle.numerals.specs.Reading.{too_large}
+use Rattle.numerals.specs.Digits.{val_from}
 use Rattle.read_number.proofs.DigitLoops.{value_more, value_all}
 use Rattle.read_number.proofs.number_at.Goals as goal
 

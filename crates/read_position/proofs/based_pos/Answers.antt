@@ -1,6 +1,5 @@
 use mathlib.Core.Path.{sym, ◌∙◌}
 use Rattle.read_position.proofs.Positions.{based_barred, based_free}
-use borrow.Author.Rules.{rules}
 use Rattle.read_position.proofs.based_pos.Goals as goal
 
 pub returns-then-is_barred : goal.returns-then-is_barred

@@ -1,6 +1,5 @@
 use mathlib.Core.Path.{sym, ◌∙◌}
 use Rattle.read_position.proofs.Positions.{genomic_unknown, genomic_none, genomic_some}
-use borrow.Author.Rules.{rules}
 use Rattle.read_position.proofs.genome_pos.Goals as goal
 
 pub returns-then-begins : goal.returns-then-begins

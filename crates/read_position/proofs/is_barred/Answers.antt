@@ -1,6 +1,5 @@
 use mathlib.Core.Path.{sym, refl, ◌∙◌}
 use Rattle.read_position.specs.Forms.{is_barred}
-use borrow.Author.Rules.{rules}
 use Rattle.read_position.proofs.is_barred.Goals as goal
 
 pub returns-then-is_starred : goal.returns-then-is_starred

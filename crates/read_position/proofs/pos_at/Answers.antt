@@ -1,6 +1,5 @@
 use mathlib.Core.Path.{sym, ◌∙◌}
 use Rattle.read_position.specs.Forms.{based_says, genomic_says, residual_says}
-use borrow.Author.Rules.{rules}
 use Rattle.read_position.proofs.pos_at.Goals as goal
 
 pub returns-in-Based : goal.returns-in-Based

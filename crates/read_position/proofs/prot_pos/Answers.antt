@@ -2,7 +2,6 @@ use Prim.Native.Nat.{◌+◌, ◌≤◌}
 use native.Mathlib.Omega.{arith}
 use lib.ListN.{length}
 use Rattle.read_position.proofs.Positions.{residual_le, residual_number_lem, residual_none, residual_bare, residual_some}
-use borrow.Author.Rules.{rules}
 use Rattle.read_position.proofs.prot_pos.Goals as goal
 
 pub returns-then-k-eq0 : goal.returns-then-k-eq0

@@ -7,7 +7,6 @@ use lib.ListN.{length}
 use Rattle.texts.specs.Ascii.{ascii}
 use Rattle.texts.specs.Words.{starts}
 use Rattle.read_protein_edit.proofs.ProteinEditCases.{behind_room, found_delins, found_del, found_ins, found_dup, found_nothing}
-use borrow.Author.Rules.{rules}
 use Rattle.read_protein_edit.proofs.worded.Goals as goal
 
 pub span-requires : goal.span-requires

@@ -1,7 +1,6 @@
 -- The first of the two that finds something.
 use mathlib.Core.Path.{◌∙◌}
 use Rattle.read_protein_ends.proofs.Ends.{ext_earlier, ext_later}
-use borrow.Author.Rules.{rules}
 use Rattle.read_protein_ends.proofs.ext.Goals as goal
 
 pub returns-in_default : goal.returns-in_default

@@ -5,7 +5,6 @@ use native.Mathlib.Omega.{arith}
 use lib.ListN.{length}
 use Rattle.lang_protein_edits.specs.Parse.{stop_at}
 use Rattle.read_protein_ends.proofs.Ends.{stop_le, fs_found}
-use borrow.Author.Rules.{rules}
 use Rattle.read_protein_ends.proofs.fs.Goals as goal
 
 pub overflow_add-result-2 : goal.overflow_add-result-2

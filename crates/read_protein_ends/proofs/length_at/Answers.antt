@@ -1,7 +1,6 @@
 -- Digits, else `?`, else nothing.
 use mathlib.Core.Path.{sym, ◌∙◌}
 use Rattle.read_protein_ends.proofs.Ends.{length_counted, length_unknown, length_unsaid}
-use borrow.Author.Rules.{rules}
 use Rattle.read_protein_ends.proofs.length_at.Goals as goal
 
 pub returns-then-n-ne0 : goal.returns-then-n-ne0

@@ -1,6 +1,5 @@
 -- No bytes, no residue.
 use Rattle.read_protein_ends.proofs.Ends.{part_absent, part_present}
-use borrow.Author.Rules.{rules}
 use Rattle.read_protein_ends.proofs.residue_part.Goals as goal
 
 pub returns-then-n-eq0 : goal.returns-then-n-eq0

@@ -4,7 +4,6 @@ use mathlib.Core.Bool.{false}
 use Rattle.texts.specs.Ascii.{ascii}
 use Rattle.texts.specs.Words.{starts}
 use Rattle.read_protein_ends.proofs.Ends.{terminal_ter, terminal_x, terminal_star, terminal_none}
-use borrow.Author.Rules.{rules}
 use Rattle.read_protein_ends.proofs.terminal_at.Goals as goal
 
 pub returns-then-begins : goal.returns-then-begins

@@ -1,14 +1,11 @@
 use Prim.Native.Nat.{◌+◌}
 use mathlib.Core.Path.{◌≡◌, sym, ap, ◌∙◌}
 use mathlib.Core.Bool.{true, false}
-use native.Mathlib.Omega.{arith}
 use lib.ListN.{drop}
-use borrow.Author.Rules.{rules}
-use borrow.Author.Tests.{not-true, not-false}
 use Rattle.texts.specs.Ascii.{ascii}
 use Rattle.texts.specs.Words.{starts}
 use Rattle.texts.proofs.Slices.{tail_part}
-use Rattle.read_scan.specs.Closing.{none_opened, is_closed, is_missing, closing_room}
+use Rattle.read_scan.specs.Closing.{none_opened, is_closed, is_missing}
 use Rattle.read_scan.proofs.closing.Goals as goal
 
 pub returns-then-opening-eq0 : goal.returns-then-opening-eq0

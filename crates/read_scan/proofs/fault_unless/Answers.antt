@@ -1,5 +1,4 @@
 use mathlib.Core.Path.{refl}
-use borrow.Author.Rules.{rules}
 use Rattle.read_scan.proofs.fault_unless.Goals as goal
 
 pub returns-then-passed : goal.returns-then-passed

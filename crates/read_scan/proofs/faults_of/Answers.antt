@@ -1,5 +1,4 @@
 use mathlib.Core.Path.{refl, ◌∙◌}
-use borrow.Author.Rules.{rules}
 use Rattle.read_scan.specs.Faults.{plain_faults}
 use Rattle.read_scan.proofs.faults_of.Goals as goal
 

@@ -1,5 +1,4 @@
 use mathlib.Core.Path.{refl, sym, ◌∙◌}
-use borrow.Author.Rules.{rules}
 use Rattle.texts.specs.Brackets.{opening}
 use Rattle.read_scan.proofs.opening.Goals as goal
 

@@ -1,7 +1,6 @@
 -- The spans of a nucleotide edit, or those of a body of p.
 use Rattle.record_inside.specs.AnyInside.{any_inside}
 use Rattle.record_inside.proofs.ArmTests.{told}
-use borrow.Author.Rules.{rules}
 use Rattle.record_inside.proofs.any_inside.Goals as goal
 
 pub returns-in-Nucleotide : goal.returns-in-Nucleotide

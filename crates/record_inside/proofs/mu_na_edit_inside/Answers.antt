@@ -1,7 +1,6 @@
 -- Brackets have no span.
 use Rattle.grammar.specs.Contents.{mu_na_edit_inside}
 use Rattle.record_inside.proofs.ArmTests.{told}
-use borrow.Author.Rules.{rules}
 use Rattle.record_inside.proofs.mu_na_edit_inside.Goals as goal
 
 pub returns-in-Certain : goal.returns-in-Certain

@@ -1,7 +1,6 @@
 -- Each edit has its spans.
 use Rattle.grammar.specs.Contents.{na_edit_inside}
 use Rattle.record_inside.proofs.ArmTests.{told}
-use borrow.Author.Rules.{rules}
 use Rattle.record_inside.proofs.na_edit_inside.Goals as goal
 
 pub returns-in-RefAlt : goal.returns-in-RefAlt

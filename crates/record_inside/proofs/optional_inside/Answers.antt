@@ -1,7 +1,6 @@
 -- A part that is there has a span.
 use Rattle.grammar.specs.Spans.{inside_optional}
 use Rattle.record_inside.proofs.ArmTests.{told}
-use borrow.Author.Rules.{rules}
 use Rattle.record_inside.proofs.optional_inside.Goals as goal
 
 pub returns-in-Present : goal.returns-in-Present

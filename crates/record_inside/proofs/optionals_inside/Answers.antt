@@ -1,6 +1,5 @@
 -- The first test, and where it holds the second.
 use Rattle.texts.proofs.Tests.{both_fail, both_next}
-use borrow.Author.Rules.{rules}
 use Rattle.record_inside.proofs.optionals_inside.Goals as goal
 
 pub returns-then-optional_inside : goal.returns-then-optional_inside

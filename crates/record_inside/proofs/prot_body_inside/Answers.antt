@@ -2,7 +2,6 @@
 use Rattle.grammar.specs.Contents.{prot_body_inside}
 use Rattle.texts.proofs.Tests.{both_fail, both_next}
 use Rattle.record_inside.proofs.ArmTests.{told}
-use borrow.Author.Rules.{rules}
 use Rattle.record_inside.proofs.prot_body_inside.Goals as goal
 
 pub returns-then-prot_location_inside : goal.returns-then-prot_location_inside

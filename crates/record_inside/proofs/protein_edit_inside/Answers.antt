@@ -1,7 +1,6 @@
 -- Each edit has its spans.
 use Rattle.grammar.specs.Contents.{protein_edit_inside}
 use Rattle.record_inside.proofs.ArmTests.{told}
-use borrow.Author.Rules.{rules}
 use Rattle.record_inside.proofs.protein_edit_inside.Goals as goal
 
 pub returns-in-Fs : goal.returns-in-Fs

@@ -1,6 +1,5 @@
 -- The accession and the gene, and where they lie inside the body.
 use Rattle.texts.proofs.Tests.{both_fail, both_next}
-use borrow.Author.Rules.{rules}
 use Rattle.record_inside.proofs.spans_inside.Goals as goal
 
 pub returns-then-optionals_inside : goal.returns-then-optionals_inside

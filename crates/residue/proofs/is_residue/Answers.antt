@@ -3,7 +3,6 @@ use Rattle.residue.specs.Residues.{is_residue}
 use Rattle.residue.specs.Reading.{residue_len}
 use Rattle.residue.specs.ResiduesRead.{residue_some, residue_whole, residue_sound}
 use Rattle.residue.proofs.ResiduesFound.{whole_empty, whole}
-use borrow.Author.Rules.{rules}
 use Rattle.residue.proofs.is_residue.Goals as goal
 
 pub returns-then-s-eq0 : goal.returns-then-s-eq0

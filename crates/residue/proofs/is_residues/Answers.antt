@@ -3,7 +3,6 @@ use Rattle.residue.specs.Residues.{is_residues}
 use Rattle.residue.specs.Reading.{residues_len}
 use Rattle.residue.specs.ResiduesRead.{residues_some, residues_whole, residues_sound}
 use Rattle.residue.proofs.ResiduesFound.{whole_empty, whole}
-use borrow.Author.Rules.{rules}
 use Rattle.residue.proofs.is_residues.Goals as goal
 
 pub returns-then-s-eq0 : goal.returns-then-s-eq0

@@ -3,7 +3,6 @@ use mathlib.Core.Path.{sym, ◌∙◌}
 use mathlib.Core.Bool.{true, false}
 use Rattle.alphabet.specs.Classes.{member}
 use Rattle.residue.proofs.ResiduesFound.{row_three, len_three, len_empty, len_one}
-use borrow.Author.Rules.{rules}
 use Rattle.residue.proofs.residue_at.Goals as goal
 
 pub returns-in_default : goal.returns-in_default

@@ -1,7 +1,6 @@
 -- Residues of three letters where there is one, else residues of one.
 use Rattle.alphabet.specs.Classes.{member}
 use Rattle.residue.proofs.ResiduesFound.{len_threes, len_ones}
-use borrow.Author.Rules.{rules}
 use Rattle.residue.proofs.residues_at.Goals as goal
 
 pub returns-then-threes-eq0 : goal.returns-then-threes-eq0

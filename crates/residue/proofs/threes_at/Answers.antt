@@ -1,10 +1,6 @@
 -- The loop's invariant: the rows of the whole text are the bytes passed and the rows of what is left.
-use Prim.Native.Nat.{◌+◌, ◌-◌, ◌≤◌}
-use mathlib.Core.Path.{◌≡◌}
+use Prim.Native.Nat.{◌-◌}
 use native.Mathlib.Omega.{arith}
-use lib.ListN.{length, drop}
-use borrow.Author.Rules.{rules}
-use Rattle.residue.specs.Reading.{threes_len}
 use Rattle.residue.proofs.ResiduesFound.{row_three_from, three_from_le, more_threes, end_threes}
 use Rattle.residue.proofs.threes_at.Goals as goal
 

@@ -1,10 +1,7 @@
 use Prim.Native.Nat.{◌+◌, ◌-◌, ◌≤◌}
 use mathlib.Core.Path.{◌≡◌}
-use native.Mathlib.Omega.{arith}
 use lib.ListN.{length, drop}
-use borrow.Author.Rules.{rules}
 use Rattle.residue.specs.Reading.{threes_len}
-use Rattle.residue.proofs.ResiduesFound.{row_three_from, three_from_le, more_threes, end_threes}
 use Rattle.residue.proofs.threes_at.Given as goal
 
 abbrev pub invariant-loop-i : goal.invariant-loop-i

@@ -1,11 +1,8 @@
 -- The loops' invariants: what `left` packs is left to search, and row i agrees where what is left of it from byte j does.
-use Prim.Native.Nat.{ℕ, ◌-◌, ◌%◌, ◌<◌}
-use mathlib.Core.Path.{◌≡◌, refl, sym}
-use mathlib.Core.List.{List, []}
+use Prim.Native.Nat.{◌-◌, ◌%◌}
+use mathlib.Core.Path.{refl, sym}
 use native.Mathlib.Omega.{arith}
-use lib.ListN.{drop, get_or}
 use borrow.Author.Rules.{rules}
-use Rattle.texts.specs.Words.{starts}
 use Rattle.residue_rows.specs.Rows.{rows}
 use Rattle.residue_rows.proofs.RowSearch.{same_byte, other_byte, last_byte, short_none}
 use Rattle.residue_rows.specs.PackedRows.{Left, left_all, left_less, none_left, next_row, this_row}

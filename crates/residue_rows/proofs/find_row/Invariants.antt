@@ -1,13 +1,10 @@
-use Prim.Native.Nat.{ℕ, ◌-◌, ◌%◌, ◌<◌}
-use mathlib.Core.Path.{◌≡◌, refl, sym}
-use mathlib.Core.List.{List, []}
-use native.Mathlib.Omega.{arith}
+use Prim.Native.Nat.{◌-◌, ◌<◌}
+use mathlib.Core.Path.{◌≡◌}
+use mathlib.Core.List.{[]}
 use lib.ListN.{drop, get_or}
-use borrow.Author.Rules.{rules}
 use Rattle.texts.specs.Words.{starts}
 use Rattle.residue_rows.specs.Rows.{rows}
-use Rattle.residue_rows.proofs.RowSearch.{same_byte, other_byte, last_byte, short_none}
-use Rattle.residue_rows.specs.PackedRows.{Left, left_all, left_less, none_left, next_row, this_row}
+use Rattle.residue_rows.specs.PackedRows.{Left}
 use Rattle.residue_rows.proofs.find_row.Given as goal
 
 abbrev pub invariant-loop-j : goal.invariant-loop-j

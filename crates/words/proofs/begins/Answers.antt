@@ -1,9 +1,7 @@
 -- `words::begins` meets its contract: what is left to compare is compared as the whole.
-use mathlib.Core.Path.{◌≡◌, refl, sym, ◌∙◌}
-use Prim.Native.Nat.{◌-◌, ◌≤◌}
+use mathlib.Core.Path.{refl, sym, ◌∙◌}
+use Prim.Native.Nat.{◌-◌}
 use native.Mathlib.Omega.{arith}
-use lib.ListN.{length, drop}
-use Rattle.texts.specs.Words.{starts}
 use Rattle.texts.proofs.Words.{starts_short, starts_more, starts_differ, starts_end}
 use Rattle.words.proofs.begins.Goals as goal
 
