@@ -1,0 +1,10 @@
+use mathlib.Core.Path.{refl, sym}
+use Rattle.record.specs.declared.Wording.TheVariants.{NoRef}
+use Rattle.write_any.specs.AnyWrites.{any_writes}
+use borrow.Author.Rules.{rules}
+use Rattle.writer.proofs.write_noref.Goals as goal
+
+pub returns : goal.returns
+returns c =
+    let a = c.args in
+    any_writes a.source.now a.v a.output.now NoRef _ _ refl (sym c.any_body.ensures) _ _ c.write_any.ensures.0 c.write_any.ensures.1
