@@ -1,6 +1,6 @@
 -- What is measured for the header and the body of a record is what the record asks for.
-use Rattle.std.specs.Prelude.{ℕ, ◌≡◌, refl, List}
-use Rattle.std.proofs.Common.{sym, ◌∙◌}
+use Rattle.std.specs.Prelude.{ℕ, ◌≡◌, List}
+use Rattle.std.proofs.Common.{sym}
 use Rattle.std.proofs.Math.Option.{Option, none, some}
 use Rattle.record.specs.declared.Header.{Header}
 use Rattle.record.specs.declared.HgvsVariant.{HgvsVariant}

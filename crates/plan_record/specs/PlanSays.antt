@@ -1,7 +1,7 @@
 -- What the plan of a record says: of a refusal its number; of a text that it is the one wanted, of a record that is sound.
 use Rattle.std.specs.Prelude.{ℕ, ◌≤◌, ◌≡◌, List, Bool, true, false, cond, leb, length}
 use Rattle.std.proofs.Math.Path.{refl}
-use Rattle.std.proofs.Common.{sym, ◌∙◌, leb-true, leb-false}
+use Rattle.std.proofs.Common.{leb-true, leb-false}
 use Rattle.record.specs.declared.HgvsVariant.{HgvsVariant}
 use Rattle.record.specs.declared.Refusal.TheVariants.{TooLong, BadSpan}
 use Rattle.record.specs.declared.Wording.{Wording}

@@ -1,6 +1,5 @@
 use mathlib.Core.Path.{refl, sym}
 use Rattle.measure_any.specs.AnyMeasures.{any_measures}
-use borrow.Author.Rules.{rules}
 use Rattle.measure.proofs.width.Goals as goal
 
 pub returns : goal.returns

@@ -1,5 +1,4 @@
 use Rattle.measure_any.specs.PlanMeasured.{refused, no_width_lem, measured}
-use borrow.Author.Rules.{rules}
 use Rattle.measure_any.proofs.width_any.Goals as goal
 
 pub returns-in-Refused : goal.returns-in-Refused

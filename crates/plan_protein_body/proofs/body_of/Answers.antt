@@ -1,4 +1,3 @@
-use borrow.Author.Rules.{rules}
 use Rattle.plan_protein_body.proofs.body_of.Goals as goal
 
 pub returns : goal.returns

@@ -1,4 +1,3 @@
-use borrow.Author.Rules.{rules}
 use Rattle.plan_protein_body.proofs.plan_mu.Goals as goal
 
 pub returns-in-Certain : goal.returns-in-Certain

@@ -1,6 +1,5 @@
 use mathlib.Core.Path.{sym, ◌∙◌}
 use Rattle.plan_protein_body.specs.Plan.{plan_ordinary}
-use borrow.Author.Rules.{rules}
 use Rattle.plan_protein_body.proofs.plan_ordinary.Goals as goal
 
 pub returns-then-is_barred : goal.returns-then-is_barred

@@ -1,4 +1,3 @@
-use borrow.Author.Rules.{rules}
 use Rattle.plan_protein_body.proofs.plan_protein_body.Goals as goal
 
 pub returns-in-Ordinary : goal.returns-in-Ordinary

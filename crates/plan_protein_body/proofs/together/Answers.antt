@@ -1,4 +1,3 @@
-use borrow.Author.Rules.{rules}
 use Rattle.plan_protein_body.proofs.together.Goals as goal
 
 pub returns-in_default-pieces : goal.returns-in_default-pieces

@@ -1,4 +1,3 @@
-use borrow.Author.Rules.{rules}
 use Rattle.plan_protein_body.proofs.word_body.Goals as goal
 
 pub returns : goal.returns

@@ -1,4 +1,3 @@
-use borrow.Author.Rules.{rules}
 use Rattle.plan_protein_edit.proofs.plan_protein_edit.Goals as goal
 
 pub returns-in-Fs : goal.returns-in-Fs

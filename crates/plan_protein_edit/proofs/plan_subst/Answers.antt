@@ -1,5 +1,4 @@
 use mathlib.Core.Path.{◌∙◌}
-use borrow.Author.Rules.{rules}
 use Rattle.plan_protein_edit.proofs.plan_subst.Goals as goal
 
 pub returns : goal.returns

@@ -1,4 +1,3 @@
-use borrow.Author.Rules.{rules}
 use Rattle.plan_protein_ends.proofs.end_pieces.Goals as goal
 
 pub returns : goal.returns

@@ -1,4 +1,3 @@
-use borrow.Author.Rules.{rules}
 use Rattle.plan_protein_ends.proofs.is_stop.Goals as goal
 
 pub returns-in-Present : goal.returns-in-Present

@@ -1,7 +1,5 @@
 use mathlib.Core.Path.{sym, ◌∙◌}
-use borrow.Author.Tests.{not-true, not-false}
 use Rattle.plan_protein_ends.specs.EndPlans.{plan_fs}
-use borrow.Author.Rules.{rules}
 use Rattle.plan_protein_ends.proofs.plan_fs.Goals as goal
 
 pub returns-then-not-is_optional : goal.returns-then-not-is_optional

@@ -1,4 +1,3 @@
-use borrow.Author.Rules.{rules}
 use Rattle.plan_protein_ends.proofs.span_of.Goals as goal
 
 pub returns-in-Absent : goal.returns-in-Absent

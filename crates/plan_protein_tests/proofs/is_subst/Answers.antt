@@ -1,6 +1,5 @@
 use mathlib.Core.Path.{sym, ◌∙◌}
 use Rattle.plan_protein_tests.specs.Tests.{is_subst}
-use borrow.Author.Rules.{rules}
 use Rattle.plan_protein_tests.proofs.is_subst.Goals as goal
 
 pub returns-then-is_residue : goal.returns-then-is_residue

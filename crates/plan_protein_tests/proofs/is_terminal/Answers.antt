@@ -1,6 +1,5 @@
 use mathlib.Core.Path.{sym, ◌∙◌}
 use Rattle.plan_protein_tests.specs.Tests.{is_terminal}
-use borrow.Author.Rules.{rules}
 use Rattle.plan_protein_tests.proofs.is_terminal.Goals as goal
 
 pub returns-then-same_bytes : goal.returns-then-same_bytes

@@ -1,7 +1,5 @@
 use native.Mathlib.Omega.{arith}
-use borrow.Author.Tests.{not-true, not-false}
 use Rattle.plan_record.specs.RecordPlans.{too_long, bad_span_lem, planned}
-use borrow.Author.Rules.{rules}
 use Rattle.plan_record.proofs.plan_record.Goals as goal
 
 pub returns-then-source-gt4096 : goal.returns-then-source-gt4096

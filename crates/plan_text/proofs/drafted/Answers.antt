@@ -1,4 +1,3 @@
-use borrow.Author.Rules.{rules}
 use Rattle.plan_text.proofs.drafted.Goals as goal
 
 pub returns-in-NoText : goal.returns-in-NoText

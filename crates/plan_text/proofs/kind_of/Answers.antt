@@ -1,4 +1,3 @@
-use borrow.Author.Rules.{rules}
 use Rattle.plan_text.proofs.kind_of.Goals as goal
 
 pub returns-in-Nucleotide : goal.returns-in-Nucleotide

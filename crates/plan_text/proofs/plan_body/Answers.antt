@@ -1,4 +1,3 @@
-use borrow.Author.Rules.{rules}
 use Rattle.plan_text.proofs.plan_body.Goals as goal
 
 pub returns-in-Nucleotide : goal.returns-in-Nucleotide

@@ -1,7 +1,5 @@
 use mathlib.Core.Path.{sym, ◌∙◌}
-use borrow.Author.Tests.{not-true, not-false}
 use Rattle.plan_text.specs.Plan.{text_plan}
-use borrow.Author.Rules.{rules}
 use Rattle.plan_text.proofs.plan_text.Goals as goal
 
 pub returns-then-not-header_has_text : goal.returns-then-not-header_has_text

@@ -1,6 +1,5 @@
 use Rattle.plan_record.specs.RecordPlans.{text_short}
 use Rattle.write_any.specs.PlanWritten.{refused, drafted}
-use borrow.Author.Rules.{rules}
 use Rattle.write_any.proofs.write_any.Goals as goal
 
 pub write_draft-requires : goal.write_draft-requires

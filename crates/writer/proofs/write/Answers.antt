@@ -1,7 +1,6 @@
 use mathlib.Core.Path.{refl, sym}
 use Rattle.record.specs.declared.Wording.TheVariants.{Shortest}
 use Rattle.write_any.specs.AnyWrites.{any_writes}
-use borrow.Author.Rules.{rules}
 use Rattle.writer.proofs.write.Goals as goal
 
 pub returns : goal.returns
