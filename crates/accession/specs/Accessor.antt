@@ -2,13 +2,13 @@
 use Rattle.std.specs.Prelude.{ℕ, ◌≡◌, List, [], false, length}
 use Rattle.std.proofs.Common.{◌∙◌}
 use Rattle.std.specs.Borrow.{Bor}
-use Rattle.texts.specs.Unique.{no_second_answer}
+use Rattle.texts.proofs.Unique.{no_second_answer}
 use Rattle.record.specs.declared.HgvsVariant.{HgvsVariant}
 use Rattle.grammar.specs.Header.{Accession, print_accession, HeaderTree.header, print_header}
 use Rattle.grammar.specs.Texts.{Text, Text.text, print}
 use Rattle.grammar.specs.Spans.{inside, part}
 use Rattle.grammar.specs.Records.{record_at}
-use Rattle.grammar.specs.Standing.{left, stands_part, stands_whole}
+use Rattle.grammar.proofs.Standing.{left, stands_part, stands_whole}
 use Rattle.parts.specs.Places.{place_of, IsPart}
 
 -- its bytes; none where its span lies outside or starts after its end

@@ -8,7 +8,7 @@ use native.Mathlib.Nat.{add-zero, zero-add, add-suc, suc-add}
 use lib.Dec.{eqb}
 use lib.ListN.{length, get_or}
 use borrow.Author.Tests.{eqb-true}
-use Rattle.texts.specs.Tests.{and-true, clash}
+use Rattle.texts.proofs.Tests.{and-true, clash}
 use Rattle.alphabet.specs.Letters.{digit, letter, alphanumeric, nucleotide, residue}
 use Rattle.alphabet.specs.Classes.{member}
 use Rattle.alphabet.specs.Flags.{flag}

@@ -7,7 +7,7 @@ use lib.ListN.{length}
 use Rattle.lines.specs.declared.Line.{Line}
 use Rattle.lines.specs.declared.Taken.{Taken}
 use Rattle.lines.specs.Taking.{taken}
-use Rattle.lines.specs.HeldLines.{used_le, used_some, stored_length, longer_within}
+use Rattle.lines.proofs.HeldLines.{used_le, used_some, stored_length, longer_within}
 
 module _ (buffer : List ℕ) (line : Line) (piece : List ℕ) {t : Taken} (e : t ≡ taken (length buffer) line piece) where
   -- some of the piece is used

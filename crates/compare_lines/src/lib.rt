@@ -1,11 +1,11 @@
-// For each line of standard input the answer to reading it, on a line of standard output; where columns are wanted, a record has them behind it.
+// For each line of what a reader gives the answer to reading it, on a line of what a writer takes; where columns are wanted, a record has them behind it.
 #![tactic(auto)]
 
 ghost use Rattle.std.specs.Prelude.{◌≤◌, length};
 
-use libc::{STDIN_FILENO, STDOUT_FILENO};
 use lines::{Line, Progress};
 use record::{ReadAnswer, Refusal};
+use std::io::{Read, Write};
 
 pub mod columns; // columns.rt: what stands behind a record
 
@@ -71,7 +71,14 @@ struct Gone {
 }
 
 // All of the piece; it goes on while what is made can be written.
-fn over(piece: &[u8], buffer: &mut [u8], line: Line, out: &mut [u8], with_columns: bool) -> Gone
+fn over<W: Write>(
+    to: &mut W,
+    piece: &[u8],
+    buffer: &mut [u8],
+    line: Line,
+    out: &mut [u8],
+    with_columns: bool,
+) -> Gone
     requires { line.len ≤ length buffer.old }
     ensures { result.line.len ≤ length buffer.old }
 {
@@ -81,7 +88,7 @@ fn over(piece: &[u8], buffer: &mut [u8], line: Line, out: &mut [u8], with_column
         let t = turn(&piece[i..], buffer, state, out, with_columns);
         let at = t.at;
         let next = t.line;
-        if !io::write_all(STDOUT_FILENO, &out[..at]) {
+        if to.write_all(&out[..at]).is_err() {
             return Gone {
                 going: false,
                 line: next,
@@ -97,37 +104,50 @@ fn over(piece: &[u8], buffer: &mut [u8], line: Line, out: &mut [u8], with_column
 }
 
 // The last line, where it has a byte and no LF.
-fn finish(buffer: &[u8], line: Line, out: &mut [u8], with_columns: bool)
+fn finish<W: Write>(to: &mut W, buffer: &[u8], line: Line, out: &mut [u8], with_columns: bool)
     requires { line.len ≤ length buffer.now }
 {
     if line_take::at_end(line) {
         let at = answer_line(buffer, line, out, with_columns);
-        io::write_all(STDOUT_FILENO, &out[..at]);
+        let _ = to.write_all(&out[..at]);
     }
 }
 
 // Reads once, and answers what came.
-fn once(input: &mut [u8], buffer: &mut [u8], line: Line, out: &mut [u8], with_columns: bool) -> Gone
+fn once<R: Read, W: Write>(
+    from: &mut R,
+    to: &mut W,
+    input: &mut [u8],
+    buffer: &mut [u8],
+    line: Line,
+    out: &mut [u8],
+    with_columns: bool,
+) -> Gone
     requires { line.len ≤ length buffer.old }
     ensures { result.line.len ≤ length buffer.old }
 {
-    let got = libc::read(STDIN_FILENO, input);
-    if got < 0 {
-        return Gone { going: false, line };
+    match from.read(input) {
+        Err(_) => Gone { going: false, line },
+        Ok(0) => {
+            finish(to, buffer, line, out, with_columns);
+            Gone { going: false, line }
+        }
+        Ok(n) => over(to, &input[..n], buffer, line, out, with_columns),
     }
-    if got == 0 {
-        finish(buffer, line, out, with_columns);
-        return Gone { going: false, line };
-    }
-    let n = io::count(got, input);
-    over(&input[..n], buffer, line, out, with_columns)
 }
 
-fn every(input: &mut [u8], buffer: &mut [u8], out: &mut [u8], with_columns: bool) {
+fn every<R: Read, W: Write>(
+    from: &mut R,
+    to: &mut W,
+    input: &mut [u8],
+    buffer: &mut [u8],
+    out: &mut [u8],
+    with_columns: bool,
+) {
     let mut line = line_take::no_line();
     let mut turns = u64::MAX;
     while turns > 0 {
-        let o = once(input, buffer, line, out, with_columns);
+        let o = once(from, to, input, buffer, line, out, with_columns);
         if !o.going {
             return;
         }
@@ -138,9 +158,9 @@ fn every(input: &mut [u8], buffer: &mut [u8], out: &mut [u8], with_columns: bool
 }
 
 // An answer and LF have fewer than 20,480 bytes: a record names no byte of its text more than twice, and each of the two texts behind it is no longer than 4,096 bytes.
-pub fn run(with_columns: bool) {
-    let mut input = io::large_buffer();
+pub fn run<R: Read, W: Write>(from: &mut R, to: &mut W, with_columns: bool) {
+    let mut input = [0u8; 65536];
     let mut buffer = [0u8; 4096];
-    let mut out = io::large_buffer();
-    every(&mut input, &mut buffer, &mut out, with_columns);
+    let mut out = [0u8; 65536];
+    every(from, to, &mut input, &mut buffer, &mut out, with_columns);
 }

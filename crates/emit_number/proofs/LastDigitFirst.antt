@@ -7,7 +7,7 @@ use native.Mathlib.Omega.{arith}
 use lib.ListN.{length, set}
 use Rattle.lent.specs.Put.{put, put_byte, put_before}
 use Rattle.numerals.specs.Digits.{dec}
-use Rattle.numerals.specs.Decimals.{dec_one, dec_more, dec_one_length, dec_more_length}
+use Rattle.numerals.proofs.Decimals.{dec_one, dec_more, dec_one_length, dec_more_length}
 
 module _ (o : List ℕ) (at w i : ℕ) (inside : i < length o) (last : i + 1 ≡ at + length (dec w)) where
   pub last_digit : 10 ≤ w → put (set o i (code "0" + w % 10)) at (dec (w / 10)) ≡ put o at (dec w)

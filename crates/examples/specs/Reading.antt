@@ -3,7 +3,8 @@ use Rattle.std.specs.Prelude.{ℕ, ◌≡◌, refl, List, [], ◌∷◌, ◌++�
 use Prim.Native.Char.{code}
 use Rattle.std.proofs.Common.{sym, ◌∙◌}
 use Rattle.texts.specs.Ascii.{ascii}
-use Rattle.texts.specs.Tables.{Each, each_so, columns}
+use Rattle.texts.specs.Tables.{Each}
+use Rattle.texts.proofs.Tables.{each_so, columns}
 use Rattle.numerals.specs.Digits.{val_from}
 use Rattle.numerals.specs.Reading.{or_zero}
 use Rattle.record.specs.declared.Span.{Span}
@@ -34,28 +35,29 @@ use Rattle.record.specs.declared.Refusal.TheVariants.{TooLong, NotInGrammar, Doe
 use Rattle.grammar.specs.Texts.{all_letters}
 use Rattle.promise.specs.Outcome.{read_outcome}
 use Rattle.promise.specs.Reading.{Reads}
-use Rattle.promise.specs.Unique.{same_read}
+use Rattle.promise.proofs.Unique.{same_read}
 use Rattle.examples.specs.Tables.{Row, row}
-use Rattle.lang_na_edits.specs.Alphabet.{alphabets}
-use Rattle.lang_bodies.specs.Computing.{computing}
-use Rattle.lang_bodies.specs.Outcomes.{text_outcome, outcome_reads, read_outcome_lem}
+use Rattle.lang_na_edits.proofs.Alphabet.{alphabets}
+use Rattle.lang_bodies.proofs.Computing.{computing}
+use Rattle.lang_bodies.proofs.TextOutcome.{text_outcome}
+use Rattle.lang_bodies.proofs.Outcomes.{outcome_reads, read_outcome_lem}
 
 -- ---- the table
-abbrev cut : ℕ → ℕ → Span
+abbrev pub cut : ℕ → ℕ → Span
 cut a b = record { start = a; end = b }
 
 -- an accepted text: where the accession ends, the gene, the body
-abbrev variant : ℕ → Part → Body → ReadAnswer
+abbrev pub variant : ℕ → Part → Body → ReadAnswer
 variant n gene b = Accepted (record { header = record { accession = cut 0 n; gene_symbol = gene }; body = b })
 
 -- c: a base, an offset, from where; its edit
-abbrev cds : ℤ → Offset → CdsFrom → D.NaEdit → Body
+abbrev pub cds : ℤ → Offset → CdsFrom → D.NaEdit → Body
 cds n o f e =
     let p : CdsPos = record { base = n; offset = o; cds_from = f } in
     Bo.Cds (record { loc = MuCds.Certain (record { start = p; end = p }); edit = MuNa.Certain e })
 
 -- p: a residue and its number
-abbrev residue : ℕ → ℕ → ℤ → ProtPos
+abbrev pub residue : ℕ → ℕ → ℤ → ProtPos
 residue a b n = record { aa = cut a b; number = n }
 
 abbrev pub answers : List (Row ReadAnswer)
@@ -88,21 +90,7 @@ answers =
     record { written = ascii "AB_12.3:c.1del" ++ replicate 4083 (code "A"); beside = Refused TooLong } ∷
     []
 
-abbrev Computed : Row ReadAnswer → Type 0
-Computed r = text_outcome all_letters alphabets r.written ≡ read_outcome r.beside
-
-computed : Each Computed answers
-unfolding computing text_outcome val_from or_zero
-computed = columns (λ r. text_outcome all_letters alphabets r.written) (λ r. read_outcome r.beside) answers refl
-
 -- it meets the reader's contract, and no other does
 pub record IsAnswer (t : List ℕ) (a : ReadAnswer) : Type 0 where
   pub reads : Reads all_letters t (read_outcome a)
   pub only : (b : ReadAnswer) → Reads all_letters t (read_outcome b) → b ≡ a
-
-is_answer : (r : Row ReadAnswer) → Computed r → IsAnswer r.written r.beside
-is_answer r e =
-    record { reads = outcome_reads all_letters alphabets r.written e; only = λ b h. same_read b r.beside (sym (read_outcome_lem all_letters alphabets r.written h) ∙ e) }
-
-pub answers_are : Each (λ r. IsAnswer r.written r.beside) answers
-answers_are = each_so Computed _ is_answer answers computed

@@ -2,11 +2,12 @@
 use Rattle.std.specs.Prelude.{ℕ, ◌≡◌, refl, List, [], ◌∷◌, ◌++◌}
 use Rattle.std.proofs.Math.Option.{none}
 use Rattle.texts.specs.Ascii.{ascii}
-use Rattle.texts.specs.Tables.{Each, each_so, columns}
+use Rattle.texts.specs.Tables.{Each}
+use Rattle.texts.proofs.Tables.{each_so, columns}
 use Rattle.grammar.specs.Texts.{Text, print, Wf, all_letters}
-use Rattle.lang_na_edits.specs.Alphabet.{alphabets}
-use Rattle.lang_bodies.specs.Computing.{parser, computing}
-use Rattle.lang_bodies.specs.Trees.{no_tree}
+use Rattle.lang_na_edits.proofs.Alphabet.{alphabets}
+use Rattle.lang_bodies.proofs.Computing.{parser, computing}
+use Rattle.lang_bodies.proofs.Trees.{no_tree}
 
 abbrev pub refused : List (List ℕ)
 refused =
@@ -66,12 +67,5 @@ refused =
 abbrev pub Unfound : List ℕ → Type 0
 Unfound t = parser t ≡ none
 
-pub unparsed : Each Unfound refused
-unfolding computing
-unparsed = columns parser (λ t. none) refused refl
-
 abbrev pub NoTree : List ℕ → Type 0
 NoTree t = (x : Text) → Wf all_letters x → print x ≡ t → ⊥
-
-pub not_in_the_language : Each NoTree refused
-not_in_the_language = each_so Unfound NoTree (λ t e x w p. no_tree all_letters alphabets t e x (record { wf = w; text = p })) refused unparsed

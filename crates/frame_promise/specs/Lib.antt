@@ -1,5 +1,2 @@
 pub mod FrameAnswers
 pub mod Cuts
-pub mod OneAnswer
-pub mod Some
-pub mod StreamTexts

@@ -7,7 +7,7 @@ use mathlib.Core.Option.{Option, none}
 use lib.Dec.{ltb}
 use lib.ListN.{length, take}
 use borrow.Author.Tests.{lt-ltb, le-ltb}
-use Rattle.texts.specs.Tests.{left_or, right_or}
+use Rattle.texts.proofs.Tests.{left_or, right_or}
 use Rattle.record.specs.declared.Refusal.TheVariants.{TooLong, BadLine}
 use Rattle.record.specs.declared.ReadAnswer.{ReadAnswer}
 use Rattle.grammar.specs.Texts.{all_letters}

@@ -1,12 +1,12 @@
 -- No second answer of a call fits.
 use Rattle.std.specs.Prelude.{ℕ, ◌≡◌, refl, List}
 use Rattle.std.proofs.Common.{sym, ap}
-use Rattle.texts.specs.Tests.{none_some}
-use Rattle.promise.specs.Unique.{same_read}
+use Rattle.texts.proofs.Tests.{none_some}
+use Rattle.promise.proofs.Unique.{same_read}
 use Rattle.frames.specs.declared.FrameState.{FrameState}
 use Rattle.frames.specs.Taking.{Standing}
 use Rattle.frame_promise.specs.FrameAnswers.{Feeds}
-use Rattle.frame_promise.specs.OneAnswer.{one_call}
+use Rattle.frame_promise.proofs.OneAnswer.{one_call}
 use Rattle.frame_reader.specs.declared.FrameAnswer.{FrameAnswer}
 use Rattle.frame_reader.specs.declared.FrameAnswer.TheVariants.{Unfinished, Answered}
 use Rattle.frame_reader.specs.declared.Fed.{Fed}

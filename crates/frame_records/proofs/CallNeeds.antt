@@ -4,7 +4,7 @@ use mathlib.Core.List.{List}
 use mathlib.Core.Option.{Option}
 use lib.ListN.{length}
 use Rattle.frames.specs.Taking.{Standing}
-use Rattle.frames.specs.Calls.{used_within, used_some}
+use Rattle.frames.proofs.Calls.{used_within, used_some}
 use Rattle.frame_promise.specs.FrameAnswers.{Answer, Feeds}
 
 -- some of the piece is used

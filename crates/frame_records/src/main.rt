@@ -6,7 +6,7 @@ ghost use Rattle.std.specs.Prelude.{◌≤◌, ◌<◌, length};
 
 use frame_reader::FrameAnswer;
 use frames::FrameState;
-use libc::{STDIN_FILENO, STDOUT_FILENO};
+use std::io::{Read, Write};
 
 // The most bytes of a call.
 const CALL: usize = 7;
@@ -66,7 +66,13 @@ fn call_end(i: usize, n: usize) -> usize
 }
 
 // All of what was read, while the answers can be written.
-fn over(piece: &[u8], buffer: &mut [u8; 4096], start: FrameState, out: &mut [u8]) -> Gone {
+fn over<W: Write>(
+    to: &mut W,
+    piece: &[u8],
+    buffer: &mut [u8; 4096],
+    start: FrameState,
+    out: &mut [u8],
+) -> Gone {
     let mut i: usize = 0;
     let mut state = start;
     while i < piece.len() {
@@ -74,7 +80,7 @@ fn over(piece: &[u8], buffer: &mut [u8; 4096], start: FrameState, out: &mut [u8]
         let t = turn(state, &piece[i..end], buffer, out);
         let at = t.at;
         let next = t.state;
-        if !io::write_all(STDOUT_FILENO, &out[..at]) {
+        if to.write_all(&out[..at]).is_err() {
             return Gone {
                 going: false,
                 state: next,
@@ -86,23 +92,34 @@ fn over(piece: &[u8], buffer: &mut [u8; 4096], start: FrameState, out: &mut [u8]
     Gone { going: true, state }
 }
 
-fn once(input: &mut [u8], buffer: &mut [u8; 4096], state: FrameState, out: &mut [u8]) -> Gone {
-    let got = libc::read(STDIN_FILENO, input);
-    if got <= 0 {
-        return Gone {
+fn once<R: Read, W: Write>(
+    from: &mut R,
+    to: &mut W,
+    input: &mut [u8],
+    buffer: &mut [u8; 4096],
+    state: FrameState,
+    out: &mut [u8],
+) -> Gone {
+    match from.read(input) {
+        Err(_) | Ok(0) => Gone {
             going: false,
             state,
-        };
+        },
+        Ok(n) => over(to, &input[..n], buffer, state, out),
     }
-    let n = io::count(got, input);
-    over(&input[..n], buffer, state, out)
 }
 
-fn every(input: &mut [u8], buffer: &mut [u8; 4096], out: &mut [u8]) {
+fn every<R: Read, W: Write>(
+    from: &mut R,
+    to: &mut W,
+    input: &mut [u8],
+    buffer: &mut [u8; 4096],
+    out: &mut [u8],
+) {
     let mut state = frame_take::fresh();
     let mut turns = u64::MAX;
     while turns > 0 {
-        let o = once(input, buffer, state, out);
+        let o = once(from, to, input, buffer, state, out);
         if !o.going {
             return;
         }
@@ -112,9 +129,15 @@ fn every(input: &mut [u8], buffer: &mut [u8; 4096], out: &mut [u8]) {
     }
 }
 
-fn main() {
-    let mut input = io::large_buffer();
+fn main(rt: HostRuntime) {
+    let mut input = [0u8; 65536];
     let mut buffer = [0u8; 4096];
-    let mut out = io::large_buffer();
-    every(&mut input, &mut buffer, &mut out);
+    let mut out = [0u8; 65536];
+    every(
+        &mut rt.stdin(),
+        &mut rt.stdout(),
+        &mut input,
+        &mut buffer,
+        &mut out,
+    );
 }

@@ -14,8 +14,8 @@ use Rattle.alphabet.specs.Cells.{within}
 use Rattle.frames.specs.declared.FrameState.{FrameState}
 use Rattle.frames.specs.Frames.{digit_value}
 use Rattle.frames.specs.Taking.{Standing, closes, or_other, with_state, after_byte, Took, behind, takes, told}
-use Rattle.frames.specs.Digits.{digit_small}
-use Rattle.frames.specs.Calls.{same_used}
+use Rattle.frames.proofs.Digits.{digit_small}
+use Rattle.frames.proofs.Calls.{same_used}
 
 -- ---- a byte and the bounds of the digits
 module _ (b : ℕ) where

@@ -1,7 +1,4 @@
-pub mod Bytes
 pub mod Calls
-pub mod Digits
-pub mod Examples
 pub mod Frames
 pub mod Gathering
 pub mod Room

@@ -5,7 +5,8 @@ use Prim.Native.String.{String}
 use Rattle.std.proofs.Math.Option.{Option, none, some}
 use Rattle.texts.specs.Ascii.{ascii}
 use Rattle.texts.specs.Words.{starts}
-use Rattle.texts.specs.Tables.{Each, Agree, agreed}
+use Rattle.texts.specs.Tables.{Each}
+use Rattle.texts.proofs.Tables.{Agree, agreed}
 use Rattle.numerals.specs.declared.Sign.TheVariants.{Unsigned, Plus, Minus, Negated}
 use Rattle.numerals.specs.Digits.{val_from}
 use Rattle.numerals.specs.Reading.{or_zero}
@@ -128,9 +129,6 @@ prints =
     (print shifted, ascii "AB_12.3:p.Gly2ArgfsTer9") ∷
     []
 
-pub prints_agree : Each Agree prints
-prints_agree = agreed prints refl
-
 -- ---- values
 abbrev pub edit_values : List (NaEditV × NaEditV)
 edit_values =
@@ -147,10 +145,6 @@ edit_values =
     (meaning_na_edit (inv (ascii "AC")), inv_ref (ascii "AC")) ∷
     []
 
-pub edit_values_agree : Each Agree edit_values
-unfolding val_from or_zero
-edit_values_agree = agreed edit_values refl
-
 abbrev pub cds_values : List (CdsPos × CdsPos)
 cds_values =
     (meaning_cds (based bare (ascii "76") absent), record { base = pos 76; offset = Absent; cds_from = Start }) ∷
@@ -160,10 +154,6 @@ cds_values =
     (meaning_cds (based minus (ascii "2147483648") absent), record { base = negsuc 2147483647; offset = Absent; cds_from = Start }) ∷
     (meaning_cds (based star (ascii "5") (back (ascii "3"))), record { base = pos 5; offset = By (negsuc 2); cds_from = End }) ∷
     []
-
-pub cds_values_agree : Each Agree cds_values
-unfolding val_from or_zero
-cds_values_agree = agreed cds_values refl
 
 abbrev pub protein_values : List (ProteinEditV × ProteinEditV)
 protein_values =
@@ -180,10 +170,6 @@ protein_values =
     (meaning_protein_edit (ext none (earlier (some (ascii "Met")) (ascii "5"))), ext_v none (some (ascii "Met")) (Known (negsuc 4))) ∷
     []
 
-pub protein_values_agree : Each Agree protein_values
-unfolding val_from or_zero
-protein_values_agree = agreed protein_values refl
-
 abbrev pub body_values : List (ProteinBodyV × ProteinBodyV)
 body_values =
     (meaning_protein_body met1, initiation_uncertain) ∷
@@ -195,9 +181,6 @@ body_values =
     (meaning_protein_body B.ProteinBody.unknown, unknown_v) ∷
     (meaning_protein_body (bracketed (both (residue_at "Gly" "2") arg)), meaning_protein_body (change (both (uncertain (residue_at "Gly" "2")) (uncertain arg)))) ∷
     []
-
-pub body_values_agree : Each Agree body_values
-body_values_agree = agreed body_values refl
 
 abbrev pub cds : ℤ → ℤ → CdsFrom → CdsPos
 cds n o f = record { base = n; offset = By o; cds_from = f }
@@ -216,10 +199,6 @@ values =
     (meaning shifted, under none Prot (ordinary (both (certain (both (prot_pos_v (ascii "Gly") (pos 2)) (prot_pos_v (ascii "Gly") (pos 2)))) (certain (fs_v (some (ascii "Arg")) (some (ascii "Ter")) (Known (pos 9))))))) ∷
     []
 
-pub values_agree : Each Agree values
-unfolding val_from or_zero
-values_agree = agreed values refl
-
 -- ---- numbers
 abbrev pub numbers : List (List Numeral × List Numeral)
 numbers =
@@ -232,9 +211,6 @@ numbers =
     (numbers_at 0 shifted, numeral 13 Unsigned (ascii "2") ∷ numeral 22 Unsigned (ascii "9") ∷ []) ∷
     (numbers_at 0 (text (named none) Prot met1), []) ∷
     []
-
-pub numbers_agree : Each Agree numbers
-numbers_agree = agreed numbers refl
 
 -- `AB_12.3:c.` .. `del`, `AB_12.3:g.` .. `del`, `AB_12.3:p.Gly2extMet-` ..
 abbrev pub on_cds : Based → Text
@@ -262,10 +238,6 @@ misfits =
     (misfit (numbers_at 0 (text (named none) Genome (both (certain (two (known (ascii "5")) (known (ascii "99999999999")))) (certain (del_num (ascii "99999999999")))))), some 12) ∷
     []
 
-pub misfits_agree : Each Agree misfits
-unfolding val_from
-misfits_agree = agreed misfits refl
-
 abbrev pub unplains : List (Option ℕ × Option ℕ)
 unplains =
     (not_plain (numbers_at 0 (on_genome "0")), none) ∷
@@ -285,7 +257,3 @@ unplains =
     (not_plain (numbers_at 0 (extended "00")), some 21) ∷
     (not_plain (numbers_at 0 (text (named none) Genome (both (certain (two (known (ascii "5")) (known (ascii "05")))) (certain (del_num (ascii "05")))))), some 12) ∷
     []
-
-pub unplains_agree : Each Agree unplains
-unfolding starts
-unplains_agree = agreed unplains refl

@@ -32,14 +32,6 @@ print_kind Tx = ascii ":n."
 print_kind Prot = ascii ":p."
 print_kind Rna = ascii ":r."
 
-pub kind_length : (k : Kind) → length (print_kind k) ≡ 3
-kind_length Cds = refl
-kind_length Genome = refl
-kind_length Mt = refl
-kind_length Tx = refl
-kind_length Prot = refl
-kind_length Rna = refl
-
 pub data HeaderTree : Type 0 where
   header : Accession → Option (List ℕ) → HeaderTree
 

@@ -14,11 +14,8 @@ pub mod Records
 pub mod Numbers
 pub mod NumberLaws
 pub mod Respelled
-pub mod RespelledLaws
 pub mod Contents
 pub mod Standing
-pub mod ContentLaw
-pub mod SpanLaw
 pub mod OrderLaw
 pub mod PlaceLaw
 pub mod BytesLaw

@@ -1,6 +1,7 @@
 -- Which texts read as a value, and the best of them.
 use Rattle.std.specs.Prelude.{ℕ, ◌≡◌, List}
-use Rattle.texts.specs.Best.{Best, best_antisym}
+use Rattle.texts.specs.Best.{Best}
+use Rattle.texts.proofs.Best.{best_antisym}
 
 module _ {Tree Value : Type 0} (print : Tree → List ℕ) (Wf : Tree → Type 0) (Fits : Tree → Type 0) (meaning : Tree → Value) where
   -- a well_formed tree, all of whose numbers fit, prints as t and means v
@@ -15,6 +16,3 @@ module _ {Tree Value : Type 0} (print : Tree → List ℕ) (Wf : Tree → Type 0
   pub record BestText (t : List ℕ) (v : Value) : Type 0 where
     pub reads : ReadsAs t v
     pub best : (u : List ℕ) → ReadsAs u v → Best t u
-
-  pub best_unique : (t u : List ℕ) (v : Value) → BestText t v → BestText u v → t ≡ u
-  best_unique t u v a b = best_antisym (a.best u b.reads) (b.best t a.reads)

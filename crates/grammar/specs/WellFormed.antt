@@ -5,9 +5,10 @@ use Prim.Native.String.{String}
 use Rattle.std.proofs.Math.Option.{none, some}
 use Rattle.std.proofs.Common.{le-leb, leb-true}
 use Rattle.texts.specs.Ascii.{ascii}
-use Rattle.texts.specs.Tests.{and-true, true_and, clash}
+use Rattle.texts.proofs.Tests.{and-true, true_and, clash}
 use Rattle.texts.specs.Runs.{every, Some}
-use Rattle.texts.specs.Words.{same, same_refl}
+use Rattle.texts.specs.Words.{same}
+use Rattle.texts.proofs.Words.{same_refl}
 use Rattle.texts.specs.Tables.{Each}
 use Rattle.alphabet.specs.Letters.{letter, digit, alphanumeric, nucleotide, residue}
 use Rattle.residue_rows.specs.Rows.{rows}
@@ -25,14 +26,6 @@ use Rattle.grammar.specs.Bodies.{Ends, ProteinBody, ProteinBody.met1, ProteinBod
 
 abbrev pub Not : {A : Type 0} → (A → Type 0) → A → Type 0
 Not P a = P a → ⊥
-
--- one or more bytes that pass a test, by computing it
-module _ {p : ℕ → Bool} {s : List ℕ} where
-  some_of : leb 1 (length s) && every p s ≡ true → Some p s
-  some_of e = let h = and-true (leb 1 (length s)) (every p s) e in record { some = leb-true 1 (length s) h.0; all = h.1 }
-
-  not_some : Some p s → leb 1 (length s) && every p s ≡ false → ⊥
-  not_some h e = clash (true_and (le-leb 1 (length s) h.some) h.all) e
 
 -- ---- nucleotide edits
 abbrev pub edits : List NaEditTree
@@ -54,11 +47,6 @@ edits =
     inv (ascii "AC") ∷
     []
 
-pub edits_formed : Each (WfNaEdit nucleotide) edits
-unfolding every nucleotide digit
-edits_formed =
-    (refl, (refl, ((refl, refl), ((refl, some_of refl), ((refl, some_of refl), ((some_of refl, some_of refl), (some_of refl, (refl, (refl, (some_of refl, (refl, (refl, (some_of refl, (refl, (refl, tt)))))))))))))))
-
 -- dup5, delAins, del12ins, ins; and letters that are none
 abbrev pub misformed_edits : List NaEditTree
 misformed_edits =
@@ -73,11 +61,6 @@ misformed_edits =
     inv_num (ascii "A") ∷
     inv (ascii "5") ∷
     []
-
-pub edits_misformed : Each (Not (WfNaEdit nucleotide)) misformed_edits
-unfolding every nucleotide digit
-edits_misformed =
-    (λ w. clash w refl, (λ w. not_some w.1 refl, (λ w. not_some w.1 refl, (λ w. not_some w refl, (λ w. clash w refl, (λ w. clash w.1 refl, (λ w. clash w refl, (λ w. not_some w refl, (λ w. not_some w refl, (λ w. clash w refl, tt))))))))))
 
 -- ---- positions
 pub data Placed : Type 0 where
@@ -100,11 +83,6 @@ positions =
     at Prot (residual (ascii "*") (ascii "2")) ∷
     []
 
-pub positions_formed : Each WfPlaced positions
-unfolding every digit residue rows same one_of is_three is_one is_residue
-positions_formed =
-    ((some_of refl, some_of refl), ((some_of refl, some_of refl), ((tt, (some_of refl, tt)), ((tt, (some_of refl, some_of refl)), ((tt, (some_of refl, tt)), (some_of refl, (tt, ((refl, some_of refl), ((refl, some_of refl), ((refl, some_of refl), tt))))))))))
-
 -- n.*5, r.*5, c.+, c.76-, g. without digits, p.gly2, p.2, p.Gly
 abbrev pub misformed_positions : List Placed
 misformed_positions =
@@ -118,21 +96,12 @@ misformed_positions =
     at Prot (residual (ascii "Gly") []) ∷
     []
 
-pub positions_misformed : Each (Not WfPlaced) misformed_positions
-unfolding every digit residue rows same one_of is_three is_one is_residue
-positions_misformed =
-    (λ w. w.0, (λ w. w.0, (λ w. not_some w.0 refl, (λ w. not_some w.1 refl, (λ w. not_some w refl, (λ w. clash w.0 refl, (λ w. clash w.0 refl, (λ w. not_some w.1 refl, tt))))))))
-
 -- ---- headers
 abbrev pub headers : List HeaderTree
 headers =
     header (accession (code "N") (ascii "M") none none) none ∷
     header (accession (code "A") (ascii "B") (some (ascii "12")) (some (ascii "3"))) (some (ascii "4p")) ∷
     []
-
-pub headers_formed : Each WfHeader headers
-unfolding every letter digit alphanumeric
-headers_formed = (((refl, some_of refl, tt, tt), tt), (((refl, some_of refl, some_of refl, some_of refl), some_of refl), tt))
 
 -- 1B, A, AB_, AB.x, AB()
 abbrev pub misformed_headers : List HeaderTree
@@ -143,11 +112,6 @@ misformed_headers =
     header (accession (code "A") (ascii "B") none (some (ascii "x"))) none ∷
     header (accession (code "A") (ascii "B") none none) (some []) ∷
     []
-
-pub headers_misformed : Each (Not WfHeader) misformed_headers
-unfolding every letter digit alphanumeric
-headers_misformed =
-    (λ w. clash w.0.0 refl, (λ w. not_some w.0.1 refl, (λ w. not_some w.0.2 refl, (λ w. not_some w.0.3 refl, (λ w. not_some w.1 refl, tt)))))
 
 -- ---- protein edits
 abbrev pub protein_edits : List ProteinEditTree
@@ -168,11 +132,6 @@ protein_edits =
     ext none (earlier none (ascii "0")) ∷
     []
 
-pub protein_edits_formed : Each WfProteinEdit protein_edits
-unfolding every digit residue rows same one_of is_three is_one is_residue threes is_residues
-protein_edits_formed =
-    (refl, (tt, (tt, (tt, (tt, (refl, (refl, ((tt, tt), ((refl, some_of refl), ((tt, tt), ((tt, tt), ((tt, tt), ((refl, (refl, some_of refl)), ((tt, (tt, some_of refl)), tt))))))))))))))
-
 -- delinsArgG, insGArg, ins, fsTer with a letter for its digits, ext- without digits; and residues that are none
 abbrev pub misformed_protein_edits : List ProteinEditTree
 misformed_protein_edits =
@@ -187,17 +146,9 @@ misformed_protein_edits =
     ext none (earlier none []) ∷
     []
 
-pub protein_edits_misformed : Each (Not WfProteinEdit) misformed_protein_edits
-unfolding every digit residue rows same one_of is_three is_one is_residue threes is_residues
-protein_edits_misformed =
-    (λ w. clash w refl, (λ w. clash w.0 refl, (λ w. clash w.0 refl, (λ w. clash w.1.0 refl, (λ w. clash w refl, (λ w. clash w refl, (λ w. clash w refl, (λ w. not_some w.1 refl, (λ w. not_some w.1.1 refl, tt)))))))))
-
 -- ---- bodies: Met01? and (Met1)? are location and edit, Met1? and (Met1?) are not
 abbrev pub exact_bodies : List ProteinBody
 exact_bodies = met1 ∷ bracketed_met1 ∷ no_protein_uncertain ∷ no_protein ∷ no_change_uncertain ∷ no_change ∷ B.ProteinBody.unknown ∷ []
-
-pub exact_formed : Each WfProteinBody exact_bodies
-exact_formed = (tt, (tt, (tt, (tt, (tt, (tt, (tt, tt)))))))
 
 abbrev pub met : String → Ends Prot
 met ds = one (residual (ascii "Met") (ascii ds))
@@ -208,24 +159,8 @@ bodies =
     change (both (uncertain (met "1")) (certain subst_unknown)) ∷
     []
 
-differ : {a b : List ℕ} → a ≡ b → same a b ≡ false → ⊥
-differ {a} {b} e f = let h : same a b ≡ true = rw (← e) (same_refl a) in clash h f
-
-pub bodies_formed : Each WfProteinBody bodies
-unfolding every digit rows same one_of is_three is_one is_residue
-bodies_formed = (
-  (((refl, some_of refl), tt), record { bare = λ e. differ e refl; in_brackets = λ e. differ e refl }),
-  (
-    (((refl, some_of refl), tt), record { bare = λ e. differ e refl; in_brackets = λ e. differ e refl }),
-    tt,
-  ),
-)
-
 abbrev pub misformed_bodies : List ProteinBody
 misformed_bodies =
     change (both (certain (met "1")) (certain subst_unknown)) ∷
     bracketed (both (met "1") subst_unknown) ∷
     []
-
-pub bodies_misformed : Each (Not WfProteinBody) misformed_bodies
-bodies_misformed = (λ w. w.1.bare refl, (λ w. w.1.in_brackets refl, tt))

@@ -8,13 +8,16 @@ use lib.ListN.{length, take, drop, get_or, length-append, length-drop}
 use lib.Seq.{drop-drop}
 use borrow.Author.Tests.{le-leb}
 use Rattle.texts.specs.Ascii.{ascii}
-use Rattle.texts.specs.Runs.{run, front, behind, run_le, front_length}
-use Rattle.texts.specs.Tests.{and_false}
-use Rattle.texts.specs.Slices.{tail_part}
-use Rattle.texts.specs.Words.{starts, starts_length}
+use Rattle.texts.specs.Runs.{run, front, behind}
+use Rattle.texts.proofs.Runs.{run_le, front_length}
+use Rattle.texts.proofs.Tests.{and_false}
+use Rattle.texts.proofs.Slices.{tail_part}
+use Rattle.texts.specs.Words.{starts}
+use Rattle.texts.proofs.Words.{starts_length}
 use Rattle.alphabet.specs.Letters.{letter, digit, alphanumeric}
 use Rattle.grammar.specs.Optional.{print_optional}
-use Rattle.lang_headers.specs.Optionals.{is_there, parse_optional, optional_none}
+use Rattle.lang_headers.specs.Optionals.{is_there, parse_optional}
+use Rattle.lang_headers.proofs.Optionals.{optional_none}
 use Rattle.lang_headers.specs.Parse.{suffix_of, version_of, parse_accession}
 use Rattle.header_lengths.specs.Lengths.{optional_length, accession_length, optional_le}
 

@@ -4,10 +4,11 @@ use Rattle.std.proofs.Math.Option.{Option, none, some}
 use Rattle.std.proofs.Common.{arith}
 use Rattle.grammar.specs.Optional.{print_optional}
 use Rattle.grammar.specs.Header.{Accession, print_accession}
-use Rattle.lang.specs.Lang.{front_within, within}
-use Rattle.lang_headers.specs.Optionals.{parse_optional, optional_front}
+use Rattle.lang.proofs.Lang.{front_within, within}
+use Rattle.lang_headers.specs.Optionals.{parse_optional}
+use Rattle.lang_headers.proofs.Optionals.{optional_front}
 use Rattle.lang_headers.specs.Parse.{parse_accession}
-use Rattle.lang_headers.specs.Sound.{accession_lang}
+use Rattle.lang_headers.proofs.Sound.{accession_lang}
 
 -- 0 where nothing was found
 abbrev pub optional_length : List ℕ → Option (List ℕ) → ℕ

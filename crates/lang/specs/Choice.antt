@@ -5,8 +5,3 @@ use Rattle.std.proofs.Math.Option.{Option, none, some}
 abbrev pub or_next : {A : Type 0} → Option A → Option A → Option A
 or_next none u = u
 or_next (some a) u = some a
-
--- by which of the two it came
-pub next_cases : {A B : Type 0} (o u : Option A) {t : A} → or_next o u ≡ some t → (o ≡ some t → B) → (u ≡ some t → B) → B
-next_cases none u e f g = g e
-next_cases (some a) u e f g = f e

@@ -1,9 +1,7 @@
 pub mod Choice
-pub mod ByParsed
 pub mod Lang
 pub mod Whole
 pub mod MuLang
-pub mod MuReading
 pub mod BothLang
 pub mod IntervalLang
 pub mod Canon

@@ -3,12 +3,12 @@ use Rattle.std.specs.Prelude.{◌≡◌, Bool}
 use Rattle.std.proofs.Common.{ap}
 use Rattle.std.proofs.Math.Option.{Option, some}
 use Rattle.texts.specs.Ascii.{ascii}
-use Rattle.texts.specs.Best.{best_append, best_behind, best_refl}
+use Rattle.texts.proofs.Best.{best_append, best_behind, best_refl}
 use Rattle.grammar.specs.Shapes.{Mu, Mu.certain, Mu.uncertain, WfMu}
 use Rattle.grammar.specs.Meaning.{map_mu}
 use Rattle.lang.specs.Lang.{Lang}
-use Rattle.lang.specs.MuLang.{Brackets, mu}
-use Rattle.lang.specs.Canon.{Canon, Right, Covered, map_o, map_some}
+use Rattle.lang.specs.MuLang.{Brackets}
+use Rattle.lang.specs.Canon.{Canon, Right, Covered, map_o}
 
 -- of what stands in brackets or not
 abbrev pub settled_mu : {A : Type 0} → (A → Bool) → Mu A → Bool
@@ -19,22 +19,3 @@ module _ (L : Lang) (br : Brackets L) (C : Canon L) where
   abbrev pub canon_mu : Mu C.Value → Option (Mu L.Tree)
   canon_mu (certain v) = map_o certain (C.canon v)
   canon_mu (uncertain v) = map_o uncertain (C.canon v)
-
-  pub right_mu : (v : Mu C.Value) (t : Mu L.Tree) → canon_mu v ≡ some t → Right (mu L br) (map_mu C.meaning) (WfMu C.Fits) v t
-  right_mu (certain v) t e =
-      let h = map_some certain (C.canon v) t e in
-      let w = C.right v h.0 h.1.0 in
-      rw (← h.1.1) (record { wf = w.wf; fits = w.fits; means = ap certain w.means })
-  right_mu (uncertain v) t e =
-      let h = map_some uncertain (C.canon v) t e in
-      let w = C.right v h.0 h.1.0 in
-      rw (← h.1.1) (record { wf = w.wf; fits = w.fits; means = ap uncertain w.means })
-
-  pub covers_mu : (u : Mu L.Tree) → (mu L br).Wf u → WfMu C.Fits u → Covered (mu L br) canon_mu (map_mu C.meaning u) u
-  covers_mu (certain u) w f = let c = C.covers u w f in record { tree = certain c.tree; found = rw c.found; best = c.best }
-  covers_mu (uncertain u) w f =
-      let c = C.covers u w f in
-      record { tree = uncertain c.tree; found = rw c.found; best = best_behind (ascii "(") (best_append c.best (best_refl {a = ascii ")"})) }
-
-  abbrev pub mu_canon : Canon (mu L br)
-  mu_canon = record { Value = Mu C.Value; meaning = map_mu C.meaning; Fits = WfMu C.Fits; canon = canon_mu; right = right_mu; covers = covers_mu }

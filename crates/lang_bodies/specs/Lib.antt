@@ -1,11 +1,4 @@
-pub mod NaBodies
 pub mod ProteinBodies
 pub mod ProteinSound
-pub mod BodyLang
-pub mod WholeText
-pub mod Trees
-pub mod Outcomes
-pub mod Spellings
 pub mod Settled
-pub mod Computing
 pub mod Examples

@@ -9,8 +9,8 @@ use Rattle.grammar.specs.ProteinEdits.{ProteinEditTree, print_protein_edit}
 use Rattle.grammar.specs.Bodies.{Ends, print_ends, ProteinBody, ProteinBody.met1, ProteinBody.bracketed_met1, ProteinBody.no_protein_uncertain, ProteinBody.no_protein, ProteinBody.no_change_uncertain, ProteinBody.no_change, ProteinBody.unknown, ProteinBody.change, ProteinBody.bracketed, print_protein_body}
 use Rattle.lang.specs.Choice.{or_next}
 use Rattle.lang.specs.Canon.{map_o}
-use Rattle.lang_locations.specs.Languages.{ends_lang}
-use Rattle.lang_protein_edits.specs.Instance.{protein_edit_lang, mu_protein_edit_lang}
+use Rattle.lang_locations.proofs.Languages.{ends_lang}
+use Rattle.lang_protein_edits.proofs.Instance.{protein_edit_lang, mu_protein_edit_lang}
 
 -- ---- the texts without location
 abbrev pub exact_bodies : List ProteinBody

@@ -15,7 +15,6 @@ use Rattle.lang_na_edits.specs.Alphabet.{Alphabet}
 use Rattle.lang_na_edits.specs.Settled.{settled_na_edit}
 use Rattle.lang_protein_edits.specs.Settled.{settled_protein_edit}
 use Rattle.promise.specs.Outcome.{limit}
-use Rattle.lang_bodies.specs.WholeText.{parse_text}
 
 abbrev pub settled_na_body : (k : Kind) → NaBody k → Bool
 settled_na_body k (both l e) = settled_location k l && settled_mu settled_na_edit e
@@ -43,17 +42,3 @@ settled_body Rna = settled_na_body Rna
 
 abbrev pub settled_text : Text → Bool
 settled_text (text h k b) = settled_body k b
-
--- ---- of a text that is read
-abbrev settled_tree : Option Text → Bool
-settled_tree none = false
-settled_tree (some x) = is_faultless (numbers_at 0 x) && (all_plain (numbers_at 0 x) && settled_text x)
-
--- no longer than any text that is read, all numbers fit and are plainly spelled, and the tree is settled
-unfoldable pub is_settled : (letters : Kind → ℕ → Bool) → ((k : Kind) → Alphabet (letters k)) → List ℕ → Bool
-is_settled letters al s = leb (length s) limit && settled_tree (parse_text letters al s)
-
-module _ (letters : Kind → ℕ → Bool) (al : (k : Kind) → Alphabet (letters k)) (s : List ℕ) where
-  pub parsed_settled : (x : Text) → length s ≤ limit → parse_text letters al s ≡ some x → is_settled letters al s ≡ is_faultless (numbers_at 0 x) && (all_plain (numbers_at 0 x) && settled_text x)
-  unfolding is_settled
-  parsed_settled x h e = rw (le-leb (length s) limit h, e)

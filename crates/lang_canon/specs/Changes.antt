@@ -44,19 +44,3 @@ changed_body w Rna = changed_na_body w Rna
 -- so does the header
 abbrev pub changed : Wording → Value → Value
 changed w (value h k b) = value h k (changed_body w k b)
-
--- ---- shortest writing changes nothing
-na_unchanged : (k : Kind) (b : NaBodyV k) → changed_na_body Shortest k b ≡ b
-na_unchanged k (both l (certain v)) = refl
-na_unchanged k (both l (uncertain v)) = refl
-
-body_unchanged : (k : Kind) (b : BodyV k) → changed_body Shortest k b ≡ b
-body_unchanged Cds = na_unchanged Cds
-body_unchanged Genome = na_unchanged Genome
-body_unchanged Mt = na_unchanged Mt
-body_unchanged Tx = na_unchanged Tx
-body_unchanged Prot = λ b. refl
-body_unchanged Rna = na_unchanged Rna
-
-pub unchanged : (v : Value) → changed Shortest v ≡ v
-unchanged (value h k b) = ap (value h k) (body_unchanged k b)

@@ -1,8 +1,6 @@
 pub mod Parse
 pub mod Sound
-pub mod Languages
 pub mod Equal
 pub mod Canon
 pub mod Canonical
-pub mod Fits
 pub mod Settled

@@ -5,7 +5,8 @@ use Rattle.std.proofs.Math.Option.{Option, none, some}
 use Rattle.texts.specs.Ascii.{ascii}
 use Rattle.texts.specs.Runs.{every, run, front, behind}
 use Rattle.texts.specs.Words.{starts, same}
-use Rattle.texts.specs.Tables.{Each, Agree, agreed}
+use Rattle.texts.specs.Tables.{Each}
+use Rattle.texts.proofs.Tables.{Agree, agreed}
 use Rattle.alphabet.specs.Letters.{digit, nucleotide}
 use Rattle.numerals.specs.Digits.{dec_up_to}
 use Rattle.grammar.specs.NucleotideEdits.{NaEditTree, NaEditTree.equal, NaEditTree.swap, NaEditTree.del_ins, NaEditTree.del_num_ins, NaEditTree.del_num, NaEditTree.del, NaEditTree.ins, NaEditTree.dup, NaEditTree.inv_num, NaEditTree.inv}
@@ -40,10 +41,6 @@ parses =
     (parse_na_edit nucleotide [], none) ∷
     []
 
-pub parses_agree : Each Agree parses
-unfolding run front behind starts digit nucleotide on_some parse_ident parse_subst inserted after_del_num after_del after_inv parse_del parse_ins parse_dup parse_inv parse_na_edit
-parses_agree = agreed parses refl
-
 abbrev pub canons : List (Option NaEditTree × Option NaEditTree)
 canons =
     (canon_na_edit nucleotide (ref_alt (ascii "A") (ascii "A")), some (equal (ascii "A"))) ∷
@@ -66,10 +63,6 @@ canons =
     (canon_na_edit nucleotide (Values.NaEditV.inv_num (negsuc 0)), none) ∷
     []
 
-pub canons_agree : Each Agree canons
-unfolding every same nucleotide dec_up_to
-canons_agree = agreed canons refl
-
 -- A>A is A=, delAinsT is A>T
 abbrev pub settled : List (Bool × Bool)
 settled =
@@ -87,6 +80,3 @@ settled =
     (settled_na_edit (inv_num (ascii "12")), true) ∷
     (settled_na_edit (inv (ascii "AC")), true) ∷
     []
-
-pub settled_agree : Each Agree settled
-settled_agree = agreed settled refl

@@ -1,7 +1,6 @@
 pub mod Alphabet
 pub mod Choice
 pub mod Parse
-pub mod Sound
 pub mod Brackets
 pub mod Canon
 pub mod Canonical

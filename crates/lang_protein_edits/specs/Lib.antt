@@ -1,9 +1,6 @@
 pub mod Parse
 pub mod Follow
-pub mod Complete
-pub mod Sound
 pub mod First
-pub mod Instance
 pub mod Canon
 pub mod CanonEnds
 pub mod Canonical

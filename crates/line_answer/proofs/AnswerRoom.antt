@@ -6,7 +6,7 @@ use mathlib.Core.List.{List, [], ◌++◌, append-nil, append_assoc}
 use native.Mathlib.Omega.{arith}
 use lib.ListN.{length, take, drop, length-append, length-drop, drop_of_length-le, take-append-drop}
 use lib.Seq.{drop-drop}
-use Rattle.texts.specs.Slices.{tail_part}
+use Rattle.texts.proofs.Slices.{tail_part}
 use Rattle.lent.specs.Put.{put, put_front}
 use Rattle.grammar.specs.Texts.{all_letters}
 use Rattle.promise.specs.Outcome.{Outcome.refused, limit}
@@ -17,7 +17,7 @@ use Rattle.numbered.specs.TextOperations.{Rewrites}
 use Rattle.lines.specs.Lines.{Held.whole, Held.too_long}
 use Rattle.line_promise.specs.LineAnswers.{refusal}
 use Rattle.line_promise.specs.Computed.{line_answer}
-use Rattle.line_promise.specs.OneLineAnswer.{refused_answer, written_answer}
+use Rattle.line_promise.proofs.OneLineAnswer.{refused_answer, written_answer}
 
 joined : (a t d : List ℕ) → a ++ (t ++ d ++ []) ≡ a ++ t ++ d
 joined a t d = simp (append-nil, append_assoc) refl

@@ -5,25 +5,23 @@ use mathlib.Core.Bool.{Bool, true, false, cond}
 use mathlib.Core.List.{List, [], ◌∷◌, ◌++◌}
 use native.Mathlib.Omega.{arith}
 use native.Mathlib.Nat.{sub-zero, zero-sub, suc-sub-suc}
-use types.Run.{OneOf, miss}
-use denote.Enum.Declared.{tag_of}
 use lib.IntN.{ℤ, pos, negsuc}
 use lib.ListN.{length, take, drop, length-take, length-drop}
 use lib.Seq.{take-nil}
-use Rattle.io.specs.Counts.{clamp_len}
 use Rattle.lent.specs.Put.{put, put_length}
 use Rattle.lines.specs.declared.Line.{Line}
 use Rattle.lines.specs.Lines.{line_end}
 use Rattle.lines.specs.Taking.{no_line, begun, held_in}
 use Rattle.lines.specs.Feeding.{finished}
 use Rattle.line_promise.specs.Computed.{line_answer}
-use Rattle.line_promise.specs.Output.{most_bytes, ended_short}
-use Rattle.line_runs.specs.contracts.Next.{the_type}
+use Rattle.line_promise.specs.Output.{most_bytes}
+use Rattle.line_promise.proofs.Output.{ended_short}
 use Rattle.line_runs.specs.declared.Rest.{Rest}
 use Rattle.line_runs.specs.declared.Waiting.{Waiting}
 use Rattle.line_runs.specs.declared.Next.{Next}
 use Rattle.line_runs.specs.declared.Next.TheVariants.{Read, Step, Write, Finish, WriteLast, Stop}
-use Rattle.line_runs.specs.After.{go_on, goes_on, after_read, after_step, after_write, piece_of, left_of, last_answer, Ready, Acted}
+use Rattle.line_runs.specs.After.{go_on, clamp_len, after_read, after_step, after_write, left_of, last_answer, Ready, Acted}
+use Rattle.line_runs.proofs.After.{goes_on}
 use Rattle.line_runs.specs.Runs.{Run, Run.begins, Run.reading, Run.stepping, Run.writing, Run.finishing, Run.writing_last, most_turns, Ends.stopped, Ends.used_up, Ran}
 
 -- ---- within its room
@@ -74,10 +72,6 @@ pub record Standing (buffer₀ : List ℕ) (left : ℕ) (next : Next) (input buf
   pub ready : Ready next input buffer out
   pub counted : turns + left ≡ most_turns
 
--- the tags of what is no stop
-abbrev not_stop : List ℕ
-not_stop = 0 ∷ (1 ∷ (2 ∷ (3 ∷ (4 ∷ []))))
-
 pub standing_start : (input buffer out : List ℕ) {line : Line} → line ≡ no_line → most_bytes ≤ length out → Standing buffer most_turns (Read line) input buffer out
 unfolding Ready
 standing_start input buffer out e h = record { turns = 0; pieces = []; taken = []; run = rw e (begins h); ready = rw e (omega arith, h); counted = refl }
@@ -89,7 +83,7 @@ module _ {buffer₀ input buffer out : List ℕ} {left : ℕ} (more : 0 < left) 
       record { turns = s.turns + 1; pieces = pieces; taken = taken; run = run; ready = ready; counted = omega (arith, s.counted) }
 
   -- a turn of a program that has not stopped
-  pub standing_more : (next : Next) → OneOf not_stop (tag_of the_type next) → Standing buffer₀ left next input buffer out
+  pub standing_more : (next : Next) → ((well : Bool) → next ≡ Stop well → ⊥) → Standing buffer₀ left next input buffer out
       → {r : Next} {input' buffer' out' : List ℕ} → Acted next input buffer out r input' buffer' out' → Standing buffer₀ (left - 1) r input' buffer' out'
   unfolding Acted Ready after_step after_write
   standing_more (Read line) k s {r} {input'} (got, q, f, g) = rw (q, f, g) (one_more s (reading s.run got input') (read_ready input' buffer out got line s.ready.0 s.ready.1))
@@ -100,7 +94,7 @@ module _ {buffer₀ input buffer out : List ℕ} {left : ℕ} (more : 0 < left) 
   standing_more (Finish line) k s (q, e, f, g) = rw (q, e, f, g) (one_more s (finishing s.run) (finish_ready input buffer out line s.ready.1))
   standing_more (WriteLast at) k s (true, q, e, f, g) = rw (q, e, f, g) (one_more s (writing_last s.run true at refl) tt)
   standing_more (WriteLast at) k s (false, q, e, f, g) = rw (q, e, f, g) (one_more s (writing_last s.run false 0 (omega arith)) tt)
-  standing_more (Stop well) k s a = absurd (miss not_stop 5 tt k)
+  standing_more (Stop well) k s a = absurd (k well refl)
 
 module _ {buffer₀ input buffer out : List ℕ} {left : ℕ} {next : Next} (s : Standing buffer₀ left next input buffer out) where
   pub ran_to_stop : {well : Bool} → next ≡ Stop well → Ran buffer₀ well input buffer out

@@ -5,9 +5,9 @@ use Rattle.record.specs.declared.HgvsVariant.{HgvsVariant}
 use Rattle.grammar.specs.Texts.{Text, print, all_letters}
 use Rattle.grammar.specs.Contents.{content}
 use Rattle.promise.specs.Outcome.{Outcome, Outcome.given, Outcome.refused}
-use Rattle.lang_bodies.specs.Outcomes.{text_outcome}
+use Rattle.lang_bodies.proofs.TextOutcome.{text_outcome}
 use Rattle.lang_canon.specs.TextCanon.{canon_text}
-use Rattle.lang_na_edits.specs.Alphabet.{alphabets}
+use Rattle.lang_na_edits.proofs.Alphabet.{alphabets}
 use Rattle.lines.specs.Lines.{Held, Held.whole, Held.too_long}
 use Rattle.line_promise.specs.LineAnswers.{refusal}
 

@@ -1,4 +1,3 @@
 pub mod LineAnswers
 pub mod Computed
-pub mod OneLineAnswer
 pub mod Output

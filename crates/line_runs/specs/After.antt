@@ -1,12 +1,11 @@
 -- What the line program does next, by what a read, a step or a write has given.
-use Rattle.std.specs.Prelude.{ℕ, zero, suc, ◌+◌, ◌≤◌, ◌<◌, ◌≡◌, refl, Bool, true, false, cond, List, leb, ℤ, pos, negsuc, length, take, drop}
+use Rattle.std.specs.Prelude.{ℕ, zero, suc, ◌+◌, ◌≤◌, ◌<◌, ◌≡◌, refl, Bool, true, false, cond, List, leb, min, ℤ, pos, negsuc, length, take, drop}
 use Rattle.std.proofs.Common.{leb-true, leb-false}
-use Rattle.io.specs.Counts.{clamp_len}
 use Rattle.lent.specs.Put.{put}
 use Rattle.lines.specs.declared.Line.{Line}
 use Rattle.lines.specs.declared.Progress.{Progress}
 use Rattle.lines.specs.Feeding.{writes, finished, clear}
-use Rattle.lines.specs.Steps.{Stepped}
+use Rattle.lines.proofs.Steps.{Stepped}
 use Rattle.line_promise.specs.Computed.{line_answer}
 use Rattle.line_promise.specs.Output.{most_bytes}
 use Rattle.line_runs.specs.declared.Rest.{Rest}
@@ -19,15 +18,10 @@ use Rattle.line_runs.specs.declared.Next.TheVariants.{Read, Step, Write, Finish,
 unfoldable pub go_on : ℕ → ℕ → Line → Next
 go_on piece used line = cond (leb piece used) (Read line) (Step (record { piece = piece; used = used; line = line }))
 
--- what holds of both holds of it
-pub goes_on : (P : Next → Type 0) (piece used : ℕ) (line : Line) → (piece ≤ used → P (Read line))
-    → (used < piece → P (Step (record { piece = piece; used = used; line = line }))) → P (go_on piece used line)
-unfolding go_on
-goes_on P piece used line reads steps = go (leb piece used) refl
-  where
-    go : (t : Bool) → leb piece used ≡ t → P (cond t (Read line) (Step (record { piece = piece; used = used; line = line })))
-    go true e = reads (leb-true piece used e)
-    go false e = steps (leb-false piece used e)
+-- what a read answers, brought into `0..=most`
+abbrev pub clamp_len : ℤ → ℕ → ℕ
+clamp_len (pos k) most = min k most
+clamp_len (negsuc k) most = 0
 
 -- by what a read answers: it has failed, the input has ended, or a piece has come
 unfoldable pub after_read : ℤ → ℕ → Line → Next
@@ -66,7 +60,7 @@ Ready (Finish line) input buffer out = (line.len ≤ length buffer) × (4097 ≤
 Ready (WriteLast at) input buffer out = at ≤ length out
 Ready (Stop well) input buffer out = Unit
 
--- a call of the C library, whatever it answers, or a step, or the answer to the last line
+-- a read or a write, whatever it answers, or a step, or the answer to the last line
 unfoldable pub Acted : Next → List ℕ → List ℕ → List ℕ → Next → List ℕ → List ℕ → List ℕ → Type 0
 Acted (Read line) input buffer out r input' buffer' out' = (got : ℤ) × (r ≡ after_read got (length input') line) × (buffer' ≡ buffer) × (out' ≡ out)
 Acted (Step rest) input buffer out r input' buffer' out' =

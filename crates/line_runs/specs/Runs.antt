@@ -5,7 +5,7 @@ use Rattle.promise.specs.Outcome.{limit}
 use Rattle.lines.specs.declared.Line.{Line}
 use Rattle.lines.specs.declared.Progress.{Progress}
 use Rattle.lines.specs.Taking.{no_line}
-use Rattle.lines.specs.Steps.{Stepped}
+use Rattle.lines.proofs.Steps.{Stepped}
 use Rattle.line_promise.specs.Computed.{line_answer}
 use Rattle.line_promise.specs.Output.{most_bytes}
 use Rattle.line_runs.specs.declared.Rest.{Rest}

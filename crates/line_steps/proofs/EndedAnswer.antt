@@ -12,7 +12,8 @@ use Rattle.lines.specs.Lines.{line_end}
 use Rattle.lines.specs.Taking.{begun, held_in, ended, longer, stored}
 use Rattle.lines.specs.Feeding.{finished, clear, writes, said}
 use Rattle.line_promise.specs.Computed.{line_answer}
-use Rattle.line_promise.specs.Output.{most_bytes, ended_short}
+use Rattle.line_promise.specs.Output.{most_bytes}
+use Rattle.line_promise.proofs.Output.{ended_short}
 
 module _ (buffer : List ℕ) (line : Line) where
   pub said_short : (piece : List ℕ) → length (said line_answer buffer line piece) ≤ most_bytes

@@ -6,7 +6,8 @@ ghost use Rattle.lent.specs.Put.{put};
 ghost use Rattle.lines.specs.Lines.{line_end};
 ghost use Rattle.lines.specs.Taking.{held_in, stored};
 ghost use Rattle.lines.specs.Feeding.{writes, finished, clear, said};
-ghost use Rattle.lines.specs.Steps.{went_to, Stepped};
+ghost use Rattle.lines.specs.Steps.{went_to};
+ghost use Rattle.lines.proofs.Steps.{Stepped};
 ghost use Rattle.line_promise.specs.Computed.{line_answer};
 ghost use Rattle.line_promise.specs.Output.{most_bytes};
 

@@ -8,8 +8,9 @@ use native.Mathlib.Numerals.{add-one}
 use lib.Dec.{ltb}
 use lib.ListN.{length, get_or, take, drop, length-drop, take-append-drop, drop_of_length-le}
 use lib.Seq.{length-take-le, take-take, drop-cons, drop-drop}
-use Rattle.texts.specs.Tests.{and_false}
-use Rattle.texts.specs.Runs.{every, run, run_le, run_append}
+use Rattle.texts.proofs.Tests.{and_false}
+use Rattle.texts.specs.Runs.{every, run}
+use Rattle.texts.proofs.Runs.{run_le, run_append}
 use Rattle.lent.specs.Put.{put}
 use Rattle.lines.specs.declared.Line.{Line}
 use Rattle.lines.specs.Taking.{in_line, fitting, taken, stored}

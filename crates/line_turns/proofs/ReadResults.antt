@@ -8,12 +8,11 @@ use lib.Signed.{lt_z}
 use borrow.Author.Tests.{ltb-true}
 use mir.Syntax.{w64}
 use mir.Val.{of_z}
-use Rattle.io.specs.Counts.{clamp_len}
-use Rattle.texts.specs.Tests.{clash}
+use Rattle.texts.proofs.Tests.{clash}
 use Rattle.lines.specs.declared.Line.{Line}
 use Rattle.line_runs.specs.declared.Next.{Next}
 use Rattle.line_runs.specs.declared.Next.TheVariants.{Finish, Stop}
-use Rattle.line_runs.specs.After.{go_on, after_read}
+use Rattle.line_runs.specs.After.{go_on, clamp_len, after_read}
 
 module _ (room : ℕ) (line : Line) where
   pub read_failed : (got : ℤ) → lt_z got (pos 0) ≡ true → Stop false ≡ after_read got room line

@@ -2,7 +2,7 @@
 #![tactic(auto)]
 
 ghost use Rattle.std.specs.Prelude.{◌+◌, ◌≤◌, ◌≡◌, length};
-ghost use Rattle.line_runs.specs.After.{go_on, after_read, after_step, after_write};
+ghost use Rattle.line_runs.specs.After.{go_on, clamp_len, after_read, after_step, after_write};
 
 use line_runs::{Next, Rest, Waiting};
 use lines::{Line, Progress};
@@ -17,6 +17,16 @@ fn go_on(piece: usize, used: usize, line: Line) -> Next
     Next::Step(Rest { piece, used, line })
 }
 
+// How many bytes of the room a read has filled: no more than it has, whatever number the read gives.
+fn count(got: isize, input: &[u8]) -> usize
+    ensures { result ≡ clamp_len got (length input.now) }
+{
+    if got > 0 {
+        return (got as usize).min(input.len());
+    }
+    0
+}
+
 // A read that fails ends no line.
 pub fn after_read(got: isize, input: &[u8], line: Line) -> Next
     ensures { result ≡ after_read got (length input.now) line }
@@ -27,7 +37,7 @@ pub fn after_read(got: isize, input: &[u8], line: Line) -> Next
     if got == 0 {
         return Next::Finish(line);
     }
-    go_on(io::count(got, input), 0, line)
+    go_on(count(got, input), 0, line)
 }
 
 // A step uses no more of the piece than is left.

@@ -2,12 +2,12 @@
 #![tactic(auto)]
 
 use compare_lines::columns;
-use libc::STDOUT_FILENO;
 use record::{
     Body, GenomeInterval, GenomeLocEdit, GenomePos, Header, HgvsVariant, MuGenomeInterval,
     MuNaEdit, MuProtInterval, MuProteinEdit, NaEdit, Part, ProtInterval, ProtLocEdit, ProtPos,
     ProteinEdit, Span, UncertainLengthChange,
 };
+use std::io::Write;
 
 // ---- parts of the source `AB_12.3GlyMetArgA?Ter`
 
@@ -129,18 +129,16 @@ fn made(i: u8) -> HgvsVariant {
 
 // ---- lines
 
-fn line(source: &[u8], v: HgvsVariant) {
-    let mut out = io::large_buffer();
+fn line<W: Write>(to: &mut W, source: &[u8], v: HgvsVariant) {
+    let mut out = [0u8; 65536];
     let behind = columns::put_columns(source, &mut out, 0, v);
     let end = compare_room::byte(&mut out, behind, b'\n');
-    io::write_all(STDOUT_FILENO, &out[..end]);
+    let _ = to.write_all(&out[..end]);
 }
 
-fn main() {
+fn main(rt: HostRuntime) {
     let source = b"AB_12.3GlyMetArgA?Ter";
-    let mut i: u8 = 0;
-    while i < ALL {
-        line(source, made(i));
-        i += 1;
+    for i in 0..ALL {
+        line(&mut rt.stdout(), source, made(i));
     }
 }

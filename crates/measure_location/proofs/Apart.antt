@@ -9,8 +9,8 @@ use lib.Signed.{le_z}
 use mir.Syntax.{w32, w64}
 use mir.Val.{SFits, to_z, of_z}
 use mir.Facts.{to_z-of_z}
-use Rattle.texts.specs.Tests.{clash}
-use Rattle.numerals.specs.Widened.{widened}
+use Rattle.texts.proofs.Tests.{clash}
+use Rattle.numerals.proofs.Widened.{widened}
 
 pub record Apart (a b : ℤ) : Type 0 where
   pub gap : ℕ

@@ -9,7 +9,7 @@ use lib.IntN.{ℤ, pos, negsuc, sub_ℕ, ◌-ℤ◌}
 use lib.Signed.{lt_z}
 use mir.Syntax.{w32}
 use mir.Val.{SFits}
-use Rattle.texts.specs.Tests.{clash}
+use Rattle.texts.proofs.Tests.{clash}
 use Rattle.promise.specs.Width.{base_index}
 
 pub negative_index : (z : ℤ) → lt_z z (pos 0) ≡ true → some z ≡ base_index z

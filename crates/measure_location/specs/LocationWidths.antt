@@ -2,7 +2,7 @@
 use Rattle.std.specs.Prelude.{ℕ, ◌≡◌, refl, Bool, true, false, cond, ℤ}
 use Rattle.std.proofs.Common.{sym, ap}
 use Rattle.std.proofs.Math.Option.{Option, none, some}
-use Rattle.texts.specs.Tests.{none_some}
+use Rattle.texts.proofs.Tests.{none_some}
 use Rattle.record.specs.declared.Kind.{Kind}
 use Rattle.record.specs.declared.Kind.TheVariants.{Cds, Genome, Mt, Tx, Prot, Rna}
 use Rattle.promise.specs.Width.{between, base_index, unshifted, anchored}

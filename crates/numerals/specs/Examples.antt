@@ -2,7 +2,8 @@
 use Rattle.std.specs.Prelude.{refl, List, [], ◌∷◌, Bool, true, false}
 use Rattle.texts.specs.Ascii.{ascii}
 use Rattle.texts.specs.Words.{starts}
-use Rattle.texts.specs.Tables.{Each, Agree, agreed}
+use Rattle.texts.specs.Tables.{Each}
+use Rattle.texts.proofs.Tables.{Agree, agreed}
 use Rattle.numerals.specs.declared.Sign.TheVariants.{Unsigned, Plus, Minus, Negated}
 use Rattle.numerals.specs.Spelling.{is_plain}
 use Rattle.numerals.specs.Reading.{fits}
@@ -19,9 +20,6 @@ bounds =
     (fits Negated 2147483647, true) ∷
     (fits Negated 2147483648, false) ∷
     []
-
-pub bounds_agree : Each Agree bounds
-bounds_agree = agreed bounds refl
 
 -- document 02, CR 3
 abbrev pub spellings : List (Bool × Bool)
@@ -41,7 +39,3 @@ spellings =
     (is_plain Negated (ascii "00"), false) ∷
     (is_plain Negated (ascii "5"), true) ∷
     []
-
-pub spellings_agree : Each Agree spellings
-unfolding starts
-spellings_agree = agreed spellings refl

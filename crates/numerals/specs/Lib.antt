@@ -1,12 +1,8 @@
 pub mod Digits
 pub mod Spelling
 pub mod Reading
-pub mod Values
-pub mod Decimals
 pub mod Signs
-pub mod Numbers
 pub mod Written
 pub mod Plain
 pub mod OnePlain
-pub mod Widened
 pub mod Examples

@@ -7,7 +7,7 @@ use lib.Dec.{leb}
 use lib.ListN.{length, take, drop}
 use borrow.Author.Tests.{leb-true}
 use denote.Ref.{Bor}
-use Rattle.texts.specs.Tests.{and-true}
+use Rattle.texts.proofs.Tests.{and-true}
 use Rattle.record.specs.declared.Span.{Span}
 use Rattle.grammar.specs.Spans.{inside, part}
 use Rattle.parts.specs.Places.{place_of, IsPart}

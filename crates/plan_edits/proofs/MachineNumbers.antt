@@ -7,7 +7,7 @@ use borrow.Author.Tests.{le-leb}
 use mir.Syntax.{w32}
 use mir.Val.{SFits}
 use Rattle.numerals.specs.Reading.{most}
-use Rattle.numerals.specs.Signs.{unsigned_most}
+use Rattle.numerals.proofs.Signs.{unsigned_most}
 use Rattle.numerals.specs.declared.Sign.TheVariants.{Unsigned}
 use Rattle.plan_edits.specs.EditPlans.{is_unsigned}
 

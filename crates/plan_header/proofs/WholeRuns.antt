@@ -8,14 +8,15 @@ use native.Mathlib.Omega.{arith}
 use lib.Dec.{eqb}
 use lib.ListN.{length}
 use borrow.Author.Tests.{ne_eqb, le-leb}
-use Rattle.texts.specs.Runs.{run, run_every}
+use Rattle.texts.specs.Runs.{run}
+use Rattle.texts.proofs.Runs.{run_every}
 use Rattle.alphabet.specs.Letters.{alphanumeric}
 use Rattle.alphabet.specs.Classes.{member}
 use Rattle.alphabet.specs.declared.Class.TheVariants.{Alphanumeric}
 use Rattle.grammar.specs.Header.{Accession, print_accession}
 use Rattle.lang.specs.Whole.{ended, whole}
 use Rattle.lang_headers.specs.Parse.{parse_accession}
-use Rattle.lang_headers.specs.Sound.{accession_lang}
+use Rattle.lang_headers.proofs.Sound.{accession_lang}
 use Rattle.header_lengths.specs.Lengths.{accession_length}
 use Rattle.plan_header.specs.HeaderText.{is_some, is_name}
 

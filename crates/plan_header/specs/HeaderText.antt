@@ -11,10 +11,12 @@ use Rattle.grammar.specs.Spans.{part, optional_part}
 use Rattle.grammar.specs.Header.{Accession, HeaderTree.header, print_gene, print_header}
 use Rattle.grammar.specs.Contents.{header_content}
 use Rattle.grammar.specs.Values.{HeaderV.header_v}
-use Rattle.lang.specs.Whole.{whole, whole_sound}
+use Rattle.lang.specs.Whole.{whole}
+use Rattle.lang.proofs.Whole.{whole_sound}
 use Rattle.lang.specs.Canon.{map_o}
-use Rattle.lang_headers.specs.Sound.{accession_lang}
-use Rattle.lang_headers.specs.Canonical.{is_gene, canon_header}
+use Rattle.lang_headers.proofs.Sound.{accession_lang}
+use Rattle.lang_headers.specs.Canonical.{is_gene}
+use Rattle.lang_headers.proofs.Canonical.{canon_header}
 
 abbrev pub is_some : {A : Type 0} → Option A → Bool
 is_some none = false

@@ -6,8 +6,9 @@ ghost use Rattle.alphabet.specs.Cells.{IsTable};
 ghost use Rattle.grammar.specs.Spans.{optional_part};
 ghost use Rattle.grammar.specs.Contents.{header_content};
 ghost use Rattle.lang.specs.Whole.{whole};
-ghost use Rattle.lang_headers.specs.Sound.{accession_lang};
-ghost use Rattle.lang_headers.specs.Canonical.{is_gene, canon_header};
+ghost use Rattle.lang_headers.proofs.Sound.{accession_lang};
+ghost use Rattle.lang_headers.specs.Canonical.{is_gene};
+ghost use Rattle.lang_headers.proofs.Canonical.{canon_header};
 ghost use Rattle.plan_header.specs.HeaderText.{is_some, is_name};
 ghost use Rattle.plan_header.specs.Headings.{heading_of};
 

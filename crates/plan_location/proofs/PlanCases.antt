@@ -8,9 +8,10 @@ use lib.Signed.{lt_z}
 use borrow.Author.Tests.{le-leb, ltb-true}
 use mir.Syntax.{w32}
 use mir.Val.{SFits}
-use Rattle.texts.specs.Tests.{clash}
+use Rattle.texts.proofs.Tests.{clash}
 use Rattle.numerals.specs.Reading.{most}
-use Rattle.numerals.specs.Signs.{written_sign, sign_most}
+use Rattle.numerals.specs.Signs.{written_sign}
+use Rattle.numerals.proofs.Signs.{sign_most}
 use Rattle.record.specs.declared.Span.{Span}
 use Rattle.record.specs.declared.Offset.{Offset}
 use Rattle.emit_piece.specs.declared.OneByte.{OneByte}

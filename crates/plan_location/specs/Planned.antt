@@ -7,7 +7,7 @@ use mathlib.Core.List.{List, [], ◌∷◌, ◌++◌, append-nil, append_assoc}
 use Rattle.std.proofs.Math.Option.{Option, none, some}
 use Rattle.std.proofs.Math.Bool.{true, false, cond}
 use Rattle.texts.specs.Ascii.{ascii}
-use Rattle.texts.specs.Tests.{none_some}
+use Rattle.texts.proofs.Tests.{none_some}
 use Rattle.numerals.specs.declared.Sign.{Sign}
 use Rattle.numerals.specs.declared.Sign.TheVariants.{Unsigned, Minus}
 use Rattle.numerals.specs.Digits.{dec}
@@ -35,7 +35,7 @@ use Rattle.lang.specs.Canon.{map_o, both_o}
 use Rattle.lang_locations.specs.Equal.{eq_position}
 use Rattle.numerals.specs.Written.{digits_of, unsigned_digits}
 use Rattle.lang_locations.specs.Canon.{canon_offset, marked, canon_based, canon_genomic, canon_position}
-use Rattle.lang_locations.specs.Canonical.{location_canon}
+use Rattle.lang_locations.proofs.Canonical.{location_canon}
 use Rattle.any_location.specs.declared.Position.{Position}
 use Rattle.any_location.specs.declared.Location.{Location}
 use Rattle.any_location.specs.OfRecord.{any_location}

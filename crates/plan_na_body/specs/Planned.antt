@@ -6,7 +6,7 @@ use Rattle.std.proofs.Common.{sym, ap, ◌∙◌}
 use mathlib.Core.List.{List, ◌++◌, append-nil}
 use Rattle.std.proofs.Math.Option.{Option, none, some}
 use Rattle.texts.specs.Ascii.{ascii}
-use Rattle.texts.specs.Tests.{none_some}
+use Rattle.texts.proofs.Tests.{none_some}
 use Rattle.alphabet.specs.Letters.{nucleotide}
 use Rattle.record.specs.declared.Kind.{Kind}
 use Rattle.record.specs.declared.NaEdit.{NaEdit}
@@ -20,9 +20,10 @@ use Rattle.grammar.specs.Shapes.{Mu.certain, Mu.uncertain, Both.both}
 use Rattle.grammar.specs.Bodies.{LocationTree, print_location, print_na_body}
 use Rattle.grammar.specs.Records.{MuIntervalR}
 use Rattle.grammar.specs.Contents.{location_content, na_edit_content, mu_na_edit_content}
-use Rattle.lang.specs.Canon.{map_o, both_o, if_some, if_same, if_map, if_both}
-use Rattle.lang_locations.specs.Canonical.{location_canon}
-use Rattle.lang_na_edits.specs.Alphabet.{nucleotides}
+use Rattle.lang.specs.Canon.{map_o, both_o, if_some}
+use Rattle.lang.proofs.Canon.{if_same, if_map, if_both}
+use Rattle.lang_locations.proofs.Canonical.{location_canon}
+use Rattle.lang_na_edits.proofs.Alphabet.{nucleotides}
 use Rattle.lang_na_edits.specs.Canon.{canon_na_edit}
 use Rattle.any_location.specs.OfRecord.{any_location}
 use Rattle.emit_piece.specs.Texts.{byte_text}
@@ -34,7 +35,7 @@ use Rattle.plan_edits.specs.declared.EditPlan.TheVariants as Edits
 use Rattle.plan_edits.specs.EditPlans as R
 use Rattle.emit_draft.specs.Texts.{body_text}
 use Rattle.lang_canon.specs.Changes.{no_ref_na_edit, changed_na_edit}
-use Rattle.lang_canon.specs.NoRefCanon.{no_ref_edit_lem}
+use Rattle.lang_canon.proofs.NoRefCanon.{no_ref_edit_lem}
 use Rattle.lang_canon.specs.Wording.{worded_na_edit, worded_na_body}
 use Rattle.plan_location.specs.declared.LocationPlan.{LocationPlan}
 use Rattle.plan_location.specs.declared.LocationPlan.TheVariants as Locations

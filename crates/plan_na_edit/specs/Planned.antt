@@ -3,7 +3,7 @@ use Rattle.std.specs.Prelude.{ℕ, ◌≡◌, refl, List, ◌∷◌, ◌++◌, B
 use Rattle.std.proofs.Common.{ap, ◌∙◌, append-nil}
 use Rattle.std.proofs.Math.Option.{none, some}
 use Rattle.texts.specs.Ascii.{ascii}
-use Rattle.texts.specs.Words.{one_each_lem}
+use Rattle.texts.proofs.Words.{one_each_lem}
 use Rattle.numerals.specs.Digits.{dec}
 use Rattle.numerals.specs.Written.{unsigned_digits}
 use Rattle.alphabet.specs.Letters.{nucleotide}

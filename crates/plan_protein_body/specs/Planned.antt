@@ -6,8 +6,9 @@ use mathlib.Core.List.{List, [], ◌++◌, append-nil, append_assoc}
 use Rattle.std.proofs.Math.Option.{Option, none, some}
 use Rattle.std.proofs.Math.Bool.{true, false}
 use Rattle.texts.specs.Ascii.{ascii}
-use Rattle.texts.specs.Tests.{none_some, and-true}
-use Rattle.texts.specs.Words.{same, same_true}
+use Rattle.texts.proofs.Tests.{none_some, and-true}
+use Rattle.texts.specs.Words.{same}
+use Rattle.texts.proofs.Words.{same_true}
 use Rattle.numerals.specs.Digits.{dec_up_to}
 use Rattle.record.specs.declared.Span.{Span}
 use Rattle.record.specs.declared.Kind.TheVariants.{Prot}
@@ -24,8 +25,8 @@ use Rattle.grammar.specs.Bodies.{Ends, print_ends, print_location, print_protein
 use Rattle.grammar.specs.Values.{ProtPosV, ProtPosV.prot_pos_v, EndsV, ProteinEditV}
 use Rattle.grammar.specs.Contents.{protein_edit_content, prot_body_content}
 use Rattle.lang.specs.Canon.{map_o, both_o}
-use Rattle.lang_locations.specs.Canonical.{ends_canon}
-use Rattle.lang_protein_edits.specs.Canonical.{protein_edit_canon}
+use Rattle.lang_locations.proofs.Canonical.{ends_canon}
+use Rattle.lang_protein_edits.proofs.Canonical.{protein_edit_canon}
 use Rattle.lang_canon.specs.ProteinBodyCanon.{barred, is_met1, inner, joined, met01, canon_ordinary, canon_protein_body}
 use Rattle.any_location.specs.declared.Position.{Position}
 use Rattle.any_location.specs.declared.Location.{Location}

@@ -7,7 +7,7 @@ use lib.Dec.{leb}
 use lib.IntN.{ℤ, pos, negsuc}
 use lib.Signed.{le_z}
 use borrow.Author.Tests.{le-leb, lt-leb, leb-true, leb-false}
-use Rattle.texts.specs.Tests.{clash}
+use Rattle.texts.proofs.Tests.{clash}
 use Rattle.plan_protein_tests.specs.Tests.{is_negated}
 
 pub negated_test : (z : ℤ) → le_z z (pos 0) ≡ true → le_z (negsuc 2147483646) z ≡ is_negated z

@@ -3,7 +3,8 @@ use Rattle.std.specs.Prelude.{ℕ, zero, suc, ◌≡◌, refl, List, Bool, true,
 use Rattle.std.proofs.Common.{sym, ap, ◌∙◌}
 use Rattle.std.proofs.Math.Option.{Option, none, some}
 use Rattle.texts.specs.Ascii.{ascii}
-use Rattle.texts.specs.Words.{same, same_true}
+use Rattle.texts.specs.Words.{same}
+use Rattle.texts.proofs.Words.{same_true}
 use Rattle.numerals.specs.Digits.{dec}
 use Rattle.numerals.specs.Written.{negated_digits}
 use Rattle.residue.specs.Residues.{is_residue}

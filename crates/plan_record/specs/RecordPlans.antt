@@ -6,7 +6,7 @@ use Rattle.std.proofs.Math.Bool.{true, false}
 use Rattle.std.proofs.Math.Dec.{leb}
 use Rattle.std.proofs.Math.ListN.{length}
 use borrow.Author.Tests.{leb-true, le-leb, lt-leb}
-use Rattle.texts.specs.Tests.{clash}
+use Rattle.texts.proofs.Tests.{clash}
 use Rattle.record.specs.declared.Header.{Header}
 use Rattle.record.specs.declared.Refusal.TheVariants.{TooLong, BadSpan}
 use Rattle.record.specs.declared.Wording.{Wording}

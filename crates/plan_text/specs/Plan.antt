@@ -10,7 +10,7 @@ use Rattle.record.specs.declared.Refusal.{Refusal}
 use Rattle.record.specs.declared.Refusal.TheVariants as Refusals
 use Rattle.record.specs.declared.Wording.{Wording}
 use Rattle.grammar.specs.Contents.{header_content}
-use Rattle.lang_headers.specs.Canonical.{canon_header}
+use Rattle.lang_headers.proofs.Canonical.{canon_header}
 use Rattle.any_body.specs.declared.AnyBody.{AnyBody}
 use Rattle.any_body.specs.declared.AnyBody.TheVariants.{Nucleotide, Protein}
 use Rattle.emit_draft.specs.declared.Heading.{Heading}

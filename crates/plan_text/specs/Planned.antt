@@ -5,7 +5,7 @@ use Rattle.std.proofs.Common.{sym}
 use mathlib.Core.List.{List, ◌++◌, append-nil, append_assoc}
 use Rattle.std.proofs.Math.Option.{Option, none, some}
 use Rattle.texts.specs.Ascii.{ascii}
-use Rattle.texts.specs.Tests.{none_some}
+use Rattle.texts.proofs.Tests.{none_some}
 use Rattle.record.specs.declared.Span.{Span}
 use Rattle.record.specs.declared.Part.{Part}
 use Rattle.record.specs.declared.Part.TheVariants.{Absent, Present}
@@ -26,15 +26,17 @@ use Rattle.grammar.specs.Bodies.{BodyTree, print_body, print_protein_body}
 use Rattle.grammar.specs.Texts.{Text, Text.text, print, all_letters}
 use Rattle.grammar.specs.Values.{HeaderV, BodyV, Value.value}
 use Rattle.grammar.specs.Contents.{location_content, mu_na_edit_content, prot_body_content, body_content, header_content, content, spans_inside}
-use Rattle.lang.specs.Canon.{map_o, map_some, both_o, if_same}
-use Rattle.lang_na_edits.specs.Alphabet.{alphabets}
-use Rattle.lang_headers.specs.Canonical.{canon_header}
+use Rattle.lang.specs.Canon.{map_o, both_o}
+use Rattle.lang.proofs.Canon.{map_some, if_same}
+use Rattle.lang_na_edits.proofs.Alphabet.{alphabets}
+use Rattle.lang_headers.proofs.Canonical.{canon_header}
 use Rattle.promise.specs.Outcome.{limit}
 use Rattle.promise.specs.Writing.{Sound, Unsound}
 use Rattle.any_body.specs.AnyBodies.{any_body}
 use Rattle.lang_canon.specs.ProteinBodyCanon.{canon_protein_body}
-use Rattle.lang_canon.specs.TextCanon.{text_some}
-use Rattle.lang_canon.specs.Wording.{Wanted, worded_body, worded_text, text_parts, worded_some, worded_none}
+use Rattle.lang_canon.proofs.TextCanon.{text_some}
+use Rattle.lang_canon.specs.Wording.{Wanted}
+use Rattle.lang_canon.proofs.Wording.{worded_body, worded_text, text_parts, worded_some, worded_none}
 use Rattle.emit_piece.specs.PartLengths.{no_part}
 use Rattle.emit_draft.specs.declared.Heading.{Heading}
 use Rattle.emit_draft.specs.declared.Draft.{Draft}

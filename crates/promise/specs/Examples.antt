@@ -3,7 +3,8 @@ use Rattle.std.specs.Prelude.{ℕ, refl, List, [], ◌∷◌, ℤ, pos, negsuc}
 use Rattle.std.proofs.Math.Option.{Option, none, some}
 use Rattle.texts.specs.Ascii.{ascii}
 use Rattle.texts.specs.Words.{same}
-use Rattle.texts.specs.Tables.{Each, Agree, agreed}
+use Rattle.texts.specs.Tables.{Each}
+use Rattle.texts.proofs.Tables.{Agree, agreed}
 use Rattle.record.specs.declared.Span.{Span}
 use Rattle.record.specs.declared.Offset.{Offset}
 use Rattle.record.specs.declared.Offset.TheVariants.{Absent, By}
@@ -44,29 +45,6 @@ use Rattle.promise.specs.Width.{width_between, body_width}
 abbrev pub told : {A : Type 0} → Outcome A → ℕ × ℕ
 told o = (outcome_number o, outcome_place o)
 
--- of an accepted record v, and a misfit at a place
-module _ (v : HgvsVariant) (place : ℕ) where
-  abbrev refused_with : Refusal → ℕ × ℕ
-  refused_with r = told {A = HgvsVariant} (refusal_outcome r)
-
-  abbrev pub outcomes : List ((ℕ × ℕ) × (ℕ × ℕ))
-  outcomes =
-      (told (read_outcome (R.Accepted v)), (0, 0)) ∷
-      (told (write_outcome (W.Written 15)), (0, 0)) ∷
-      (told (width_outcome (M.Width 3)), (0, 0)) ∷
-      (refused_with TooLong, (1, 0)) ∷
-      (refused_with NotInGrammar, (2, 0)) ∷
-      (refused_with (DoesNotFit place), (3, place)) ∷
-      (refused_with BadSpan, (4, 0)) ∷
-      (refused_with NoText, (5, 0)) ∷
-      (refused_with NoRoom, (6, 0)) ∷
-      (refused_with NoWidth, (7, 0)) ∷
-      (refused_with BadLine, (8, 0)) ∷
-      []
-
-  pub outcomes_agree : Each Agree outcomes
-  outcomes_agree = agreed outcomes refl
-
 -- lengths and widths, none of a refusal; the most bytes of a text
 abbrev pub values : List (ℕ × ℕ)
 values =
@@ -76,9 +54,6 @@ values =
     (outcome_value (width_outcome (M.Refused NoWidth)), 0) ∷
     (limit, 4096) ∷
     []
-
-pub values_agree : Each Agree values
-values_agree = agreed values refl
 
 -- ---- reference-free writing
 abbrev pub no_refs : List (List ℕ × List ℕ)
@@ -100,10 +75,6 @@ no_refs =
     (no_ref_edit (ins_v (ascii "AC")), ascii "insAC") ∷
     (print_mu no_ref_edit (uncertain (dup_v (ascii "AC"))), ascii "(dup)") ∷
     []
-
-pub no_refs_agree : Each Agree no_refs
-unfolding same
-no_refs_agree = agreed no_refs refl
 
 -- ---- widths
 abbrev pub deleted : MuNaEdit
@@ -175,7 +146,3 @@ widths =
     (body_width (on_tx (pos 0) Absent (pos 0) Absent), none) ∷
     (body_width (on_rna (pos 0) Absent (pos 0) Absent), none) ∷
     []
-
-pub widths_agree : Each Agree widths
-unfolding width_between
-widths_agree = agreed widths refl

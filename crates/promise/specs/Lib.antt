@@ -1,9 +1,7 @@
 pub mod Outcome
 pub mod Reading
 pub mod Writing
-pub mod Accepted
 pub mod NoRef
 pub mod Width
 pub mod NoBaseZero
-pub mod Unique
 pub mod Examples

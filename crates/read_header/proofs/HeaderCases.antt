@@ -11,8 +11,8 @@ use lib.ListN.{length, take, drop, get_or, length-append, length-drop}
 use borrow.Author.Tests.{ne_eqb}
 use Rattle.texts.specs.Ascii.{ascii}
 use Rattle.texts.specs.Runs.{Some}
-use Rattle.texts.specs.Tests.{and_false}
-use Rattle.texts.specs.Slices.{tail_part}
+use Rattle.texts.proofs.Tests.{and_false}
+use Rattle.texts.proofs.Slices.{tail_part}
 use Rattle.texts.specs.Words.{starts}
 use Rattle.alphabet.specs.Letters.{alphanumeric}
 use Rattle.record.specs.declared.Span.{Span}
@@ -20,10 +20,10 @@ use Rattle.record.specs.declared.Part.TheVariants.{Absent, Present}
 use Rattle.grammar.specs.Optional.{WfOptional}
 use Rattle.grammar.specs.Header.{Accession, Accession.accession, print_accession, print_gene}
 use Rattle.grammar.specs.Records.{span, part_of}
-use Rattle.lang.specs.Lang.{front_within}
+use Rattle.lang.proofs.Lang.{front_within}
 use Rattle.lang_headers.specs.Optionals.{parse_optional}
 use Rattle.lang_headers.specs.Parse.{parse_accession, closed, parse_gene, headed, parse_header}
-use Rattle.lang_headers.specs.Sound.{gene_front}
+use Rattle.lang_headers.proofs.Sound.{gene_front}
 use Rattle.lang_headers.specs.Kinds.{first_kind, parse_kind}
 use Rattle.read_header.specs.declared.HeaderRead.{HeaderRead}
 use Rattle.read_header.specs.declared.HeaderRead.TheVariants.{Nothing, Found}

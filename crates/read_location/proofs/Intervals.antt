@@ -10,11 +10,12 @@ use mir.Val.{SFits, of_z}
 use lib.Dec.{eqb}
 use lib.ListN.{length, take, drop, length-append, length-drop}
 use Rattle.texts.specs.Ascii.{ascii}
-use Rattle.texts.specs.Slices.{tail_part, tail_at, tail_beyond}
-use Rattle.texts.specs.Words.{starts, starts_length}
+use Rattle.texts.proofs.Slices.{tail_part, tail_at, tail_beyond}
+use Rattle.texts.specs.Words.{starts}
+use Rattle.texts.proofs.Words.{starts_length}
 use Rattle.numerals.specs.declared.Sign.TheVariants.{Unsigned}
 use Rattle.numerals.specs.Digits.{val}
-use Rattle.numerals.specs.Signs.{or_zero_fits}
+use Rattle.numerals.proofs.Signs.{or_zero_fits}
 use Rattle.record.specs.declared.Kind.{Kind}
 use Rattle.record.specs.declared.Kind.TheVariants.{Cds, Genome, Mt, Tx, Prot, Rna}
 use Rattle.grammar.specs.Positions as Tree
@@ -22,14 +23,15 @@ use Rattle.grammar.specs.Positions.{Based.based, Genomic.known, Genomic.unknown,
 use Rattle.grammar.specs.Shapes.{Interval.one, Interval.two}
 use Rattle.grammar.specs.Meaning.{sign_of}
 use Rattle.grammar.specs.Numbers.{position_numbers}
-use Rattle.lang.specs.Lang.{within}
+use Rattle.lang.proofs.Lang.{within}
 use Rattle.lang.specs.IntervalLang.{parse_interval}
 use Rattle.read_scan.specs.Accounts.{answered}
 use Rattle.read_scan.specs.declared.Faults.{Faults}
 use Rattle.read_scan.specs.Faults.{faults, first, settled_if, faults_append, settled_only}
 use Rattle.lang_locations.specs.Parse.{parse_position}
-use Rattle.lang_locations.specs.Languages.{pos_lang, ends_lang}
-use Rattle.lang_locations.specs.Equal.{eqℤ, machine_equal}
+use Rattle.lang_locations.proofs.Languages.{pos_lang, ends_lang}
+use Rattle.lang_locations.specs.Equal.{eqℤ}
+use Rattle.lang_locations.proofs.Equal.{machine_equal}
 use Rattle.lang_locations.specs.Settled.{number_in}
 use Rattle.any_location.specs.declared.Position.{Position}
 use Rattle.read_position.specs.declared.PositionRead.TheVariants as PR

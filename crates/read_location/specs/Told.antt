@@ -4,12 +4,12 @@ use Rattle.std.proofs.Math.Option.{none}
 use Rattle.std.proofs.Common.{arith}
 use Rattle.record.specs.declared.Kind.{Kind}
 use Rattle.grammar.specs.Numbers.{ends_numbers}
-use Rattle.lang.specs.Lang.{within}
+use Rattle.lang.proofs.Lang.{within}
 use Rattle.read_scan.specs.declared.Faults.{Faults}
 use Rattle.read_scan.specs.Accounts.{Cases, Told, told, unread}
 use Rattle.read_scan.specs.MuAccounts.{Bracketed}
 use Rattle.lang_locations.specs.Settled.{settled_ends}
-use Rattle.lang_locations.specs.Languages.{ends_lang, location_lang}
+use Rattle.lang_locations.proofs.Languages.{ends_lang, location_lang}
 use Rattle.any_location.specs.declared.Location.{Location}
 use Rattle.any_location.specs.OfTree.{interval_of, location_of, uncertain_of, uncertain_is}
 use Rattle.read_location.specs.declared.LocationRead.TheVariants.{Nothing, Found}

@@ -3,7 +3,7 @@
 
 ghost use Rattle.std.specs.Prelude.{◌≡◌, ◌+◌, ◌≤◌, length};
 ghost use Rattle.alphabet.specs.Cells.{IsTable};
-ghost use Rattle.lang_locations.specs.Languages.{ends_lang, location_lang};
+ghost use Rattle.lang_locations.proofs.Languages.{ends_lang, location_lang};
 ghost use Rattle.read_location.specs.LocationAnswers.{interval_answer, location_answer};
 
 use any_location::Location;

@@ -11,8 +11,9 @@ use lib.Dec.{eqb}
 use lib.ListN.{length, take, drop}
 use borrow.Author.Tests.{eq-eqb, ne_eqb, ltb-true}
 use Rattle.texts.specs.Ascii.{ascii}
-use Rattle.texts.specs.Runs.{run, front, front_length}
-use Rattle.texts.specs.Slices.{tail_part}
+use Rattle.texts.specs.Runs.{run, front}
+use Rattle.texts.proofs.Runs.{front_length}
+use Rattle.texts.proofs.Slices.{tail_part}
 use Rattle.texts.specs.Words.{starts}
 use Rattle.alphabet.specs.Letters.{digit}
 use Rattle.numerals.specs.declared.Sign.{Sign}

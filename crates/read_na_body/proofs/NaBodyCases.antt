@@ -6,7 +6,7 @@ use mathlib.Core.Option.{none, some}
 use native.Mathlib.Omega.{arith}
 use lib.ListN.{length, take, drop, length-append, length-drop}
 use borrow.Author.Tests.{eq-eqb, ne_eqb}
-use Rattle.texts.specs.Slices.{tail_part, tail_at}
+use Rattle.texts.proofs.Slices.{tail_part, tail_at}
 use Rattle.alphabet.specs.Letters.{nucleotide}
 use Rattle.record.specs.declared.Kind.{Kind}
 use Rattle.record.specs.declared.MuNaEdit.{MuNaEdit}
@@ -14,16 +14,16 @@ use Rattle.grammar.specs.Shapes.{Both.both, print_mu}
 use Rattle.grammar.specs.NucleotideEdits.{print_na_edit}
 use Rattle.grammar.specs.Bodies.{print_location, print_na_body}
 use Rattle.grammar.specs.Numbers.{mu_numbers, ends_numbers, na_edit_numbers, na_body_numbers}
-use Rattle.lang.specs.Lang.{within}
+use Rattle.lang.proofs.Lang.{within}
 use Rattle.lang.specs.Whole.{whole}
 use Rattle.lang.specs.BothLang.{parse_both}
 use Rattle.lang.specs.MuCanon.{settled_mu}
-use Rattle.lang_locations.specs.Languages.{location_lang}
+use Rattle.lang_locations.proofs.Languages.{location_lang}
 use Rattle.lang_locations.specs.Settled.{settled_location}
-use Rattle.lang_na_edits.specs.Alphabet.{nucleotides}
-use Rattle.lang_na_edits.specs.Brackets.{mu_na_edit_lang}
+use Rattle.lang_na_edits.proofs.Alphabet.{nucleotides}
+use Rattle.lang_na_edits.proofs.Bracketing.{mu_na_edit_lang}
 use Rattle.lang_na_edits.specs.Settled.{settled_na_edit}
-use Rattle.lang_bodies.specs.NaBodies.{na_body_lang}
+use Rattle.lang_bodies.proofs.NaBodies.{na_body_lang}
 use Rattle.lang_bodies.specs.Settled.{settled_na_body}
 use Rattle.read_scan.specs.declared.Faults.{Faults}
 use Rattle.read_scan.specs.Faults.{faults, first, faults_append}

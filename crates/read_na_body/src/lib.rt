@@ -5,8 +5,8 @@ ghost use Rattle.std.specs.Prelude.{◌≡◌, ◌+◌, ◌≤◌, length};
 ghost use Rattle.alphabet.specs.Cells.{IsTable};
 ghost use Rattle.alphabet.specs.Letters.{nucleotide};
 ghost use Rattle.lang.specs.Whole.{whole};
-ghost use Rattle.lang_na_edits.specs.Alphabet.{nucleotides};
-ghost use Rattle.lang_bodies.specs.NaBodies.{na_body_lang};
+ghost use Rattle.lang_na_edits.proofs.Alphabet.{nucleotides};
+ghost use Rattle.lang_bodies.proofs.NaBodies.{na_body_lang};
 ghost use Rattle.read_na_body.specs.NaBodyAnswers.{na_answer};
 
 use any_body::AnyBody;

@@ -12,9 +12,9 @@ use Rattle.read_scan.specs.declared.Faults.{Faults}
 use Rattle.read_scan.specs.Accounts.{Cases, Told, told, unread}
 use Rattle.read_scan.specs.MuAccounts.{Bracketed}
 use Rattle.lang_na_edits.specs.Settled.{settled_na_edit}
-use Rattle.lang_na_edits.specs.Alphabet.{nucleotides}
-use Rattle.lang_na_edits.specs.Sound.{na_edit_lang}
-use Rattle.lang_na_edits.specs.Brackets.{mu_na_edit_lang}
+use Rattle.lang_na_edits.proofs.Alphabet.{nucleotides}
+use Rattle.lang_na_edits.proofs.Sound.{na_edit_lang}
+use Rattle.lang_na_edits.proofs.Bracketing.{mu_na_edit_lang}
 use Rattle.read_na_forms.specs.declared.NaEditRead.TheVariants as Edits
 use Rattle.read_na_edit.specs.declared.MuNaEditRead.TheVariants as Mus
 use Rattle.read_na_edit.specs.MuNaEditAnswers.{mu_na_edits, mu_na_edit_answer}

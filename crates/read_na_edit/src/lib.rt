@@ -4,9 +4,9 @@
 ghost use Rattle.std.specs.Prelude.{◌≡◌, ◌+◌, ◌≤◌, length};
 ghost use Rattle.alphabet.specs.Cells.{IsTable};
 ghost use Rattle.alphabet.specs.Letters.{nucleotide};
-ghost use Rattle.lang_na_edits.specs.Alphabet.{nucleotides};
-ghost use Rattle.lang_na_edits.specs.Sound.{na_edit_lang};
-ghost use Rattle.lang_na_edits.specs.Brackets.{mu_na_edit_lang};
+ghost use Rattle.lang_na_edits.proofs.Alphabet.{nucleotides};
+ghost use Rattle.lang_na_edits.proofs.Sound.{na_edit_lang};
+ghost use Rattle.lang_na_edits.proofs.Bracketing.{mu_na_edit_lang};
 ghost use Rattle.read_na_forms.specs.NaEditAnswers.{na_edit_answer};
 ghost use Rattle.read_na_edit.specs.MuNaEditAnswers.{mu_na_edit_answer};
 

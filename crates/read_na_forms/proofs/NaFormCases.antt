@@ -9,12 +9,15 @@ use native.Mathlib.Omega.{arith}
 use lib.Dec.{eqb}
 use lib.ListN.{length, get_or, take, drop, length-drop}
 use Rattle.texts.specs.Ascii.{ascii}
-use Rattle.texts.specs.Slices.{tail_part, tail_room}
-use Rattle.texts.specs.Runs.{run, front, behind, run_le, front_length}
-use Rattle.texts.specs.Words.{starts, starts_length}
+use Rattle.texts.proofs.Slices.{tail_part, tail_room}
+use Rattle.texts.specs.Runs.{run, front, behind}
+use Rattle.texts.proofs.Runs.{run_le, front_length}
+use Rattle.texts.specs.Words.{starts}
+use Rattle.texts.proofs.Words.{starts_length}
 use Rattle.alphabet.specs.Letters.{digit}
 use Rattle.grammar.specs.NucleotideEdits.{NaEditTree, NaEditTree.equal, NaEditTree.swap, NaEditTree.del_ins, NaEditTree.del_num_ins, NaEditTree.del_num, NaEditTree.del, NaEditTree.ins, NaEditTree.inv_num, NaEditTree.inv}
-use Rattle.lang_na_edits.specs.Choice.{on_word, on_none, on_some_lem}
+use Rattle.lang_na_edits.specs.Choice.{on_word}
+use Rattle.lang_na_edits.proofs.Choice.{on_none, on_some_lem}
 use Rattle.lang_na_edits.specs.Parse.{parse_ident, parse_subst, inserted, after_del_num, after_del, after_inv, parse_ins}
 use Rattle.read_na_forms.specs.declared.NaEditRead.{NaEditRead}
 use Rattle.read_na_forms.specs.declared.NaEditRead.TheVariants.{Nothing}

@@ -10,16 +10,16 @@ use lib.Dec.{eqb, leb}
 use lib.ListN.{length, get_or, take}
 use lib.Seq.{take-suc}
 use borrow.Author.Tests.{leb-true, leb-false, eqb-true, eq-eqb}
-use Rattle.texts.specs.Tests.{clash, never}
+use Rattle.texts.proofs.Tests.{clash, never}
 use Rattle.texts.specs.Runs.{run, front}
 use Rattle.texts.specs.Words.{starts}
 use Rattle.alphabet.specs.Letters.{digit}
 use Rattle.numerals.specs.Digits.{val}
-use Rattle.numerals.specs.Values.{val_append, val_one}
+use Rattle.numerals.proofs.Values.{val_append, val_one}
 use Rattle.numerals.specs.Spelling.{zero_first}
 use Rattle.numerals.specs.Reading.{most, too_large, number_of, number_at}
-use Rattle.numerals.specs.Signs.{most_bound}
-use Rattle.numerals.specs.Numbers.{number_misfit}
+use Rattle.numerals.proofs.Signs.{most_bound}
+use Rattle.numerals.proofs.Numbers.{number_misfit}
 use Rattle.numerals.specs.declared.Sign.{Sign}
 
 -- ---- a value that is too large may count as another

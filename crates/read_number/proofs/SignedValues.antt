@@ -9,8 +9,8 @@ use mir.Facts.{to_z_pos, sfits_widen}
 use Rattle.numerals.specs.declared.Sign.{Sign}
 use Rattle.numerals.specs.declared.Sign.TheVariants.{Minus}
 use Rattle.numerals.specs.Reading.{signed, most}
-use Rattle.numerals.specs.Signs.{signed_fits}
-use Rattle.numerals.specs.Widened.{negation, negation_fits}
+use Rattle.numerals.proofs.Signs.{signed_fits}
+use Rattle.numerals.proofs.Widened.{negation, negation_fits}
 
 -- with a sign s that leaves it as it is
 pub positive_fits : {sign s : Sign} (v : ℕ) → sign ≡ s → signed s v ≡ pos v → v ≤ most sign → SFits w32 (pos v)

@@ -12,8 +12,9 @@ use lib.ListN.{length, take, drop, length-append, length-drop}
 use lib.Seq.{drop-drop, length-take-le}
 use borrow.Author.Tests.{ne_eqb}
 use Rattle.texts.specs.Ascii.{ascii}
-use Rattle.texts.specs.Runs.{run, front, behind, front_length}
-use Rattle.texts.specs.Slices.{tail_part}
+use Rattle.texts.specs.Runs.{run, front, behind}
+use Rattle.texts.proofs.Runs.{front_length}
+use Rattle.texts.proofs.Slices.{tail_part}
 use Rattle.texts.specs.Words.{starts}
 use Rattle.alphabet.specs.Letters.{digit}
 use Rattle.numerals.specs.declared.Sign.TheVariants.{Unsigned}
@@ -34,7 +35,7 @@ use Rattle.read_scan.specs.declared.Faults.{Faults}
 use Rattle.read_scan.specs.Reading.{number_run, number_len, number_le, number_value, number_faults}
 use Rattle.read_scan.specs.Faults.{faults, none as noFault, of_number, first, faults_nil, faults_append}
 use Rattle.lang_locations.specs.Parse.{parse_mark, parse_offset, parse_based, parse_genomic, parse_residual}
-use Rattle.lang_locations.specs.Sound.{digits_none, digits_some, mark_split, offset_sound}
+use Rattle.lang_locations.proofs.Sound.{digits_none, digits_some, mark_split, offset_sound}
 use Rattle.any_location.specs.declared.Position.{Position}
 use Rattle.read_mark_offset.specs.declared.MarkRead.{MarkRead}
 use Rattle.read_mark_offset.specs.declared.OffsetRead.{OffsetRead}

@@ -9,8 +9,8 @@ use Rattle.record.specs.declared.Kind.{Kind}
 use Rattle.record.specs.declared.Kind.TheVariants.{Cds, Genome, Mt, Tx, Prot, Rna}
 use Rattle.grammar.specs.Positions.{Based, Based.based}
 use Rattle.lang_locations.specs.Parse.{parse_based, parse_unstarred, parse_genomic, parse_residual, parse_position}
-use Rattle.lang_locations.specs.Sound.{sound_position}
-use Rattle.lang_locations.specs.Canonical.{unstarred_from}
+use Rattle.lang_locations.proofs.Sound.{sound_position}
+use Rattle.lang_locations.proofs.Canonical.{unstarred_from}
 use Rattle.read_scan.specs.Accounts.{answered}
 use Rattle.read_position.specs.declared.Form.{Form}
 use Rattle.read_position.specs.declared.Form.TheVariants.{Based as BasedForm, Genomic, Residual}

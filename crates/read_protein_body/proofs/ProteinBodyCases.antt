@@ -8,13 +8,14 @@ use native.Mathlib.Omega.{arith}
 use lib.ListN.{length}
 use borrow.Author.Tests.{eq-eqb, ne_eqb}
 use Rattle.texts.specs.Ascii.{ascii}
-use Rattle.texts.specs.Words.{starts, same, same_true}
+use Rattle.texts.specs.Words.{starts, same}
+use Rattle.texts.proofs.Words.{same_true}
 use Rattle.record.specs.declared.Kind.TheVariants.{Prot}
 use Rattle.record.specs.declared.ProtLocEdit.{ProtLocEdit}
 use Rattle.grammar.specs.Bodies.{ProteinBody, print_protein_body}
 use Rattle.grammar.specs.Records.{protein_body_at}
 use Rattle.grammar.specs.Numbers.{protein_body_numbers}
-use Rattle.lang.specs.ByParsed.{by_answer}
+use Rattle.lang.proofs.ByParsed.{by_answer}
 use Rattle.lang_bodies.specs.ProteinBodies.{exact_bodies, first_exact, parse_ordinary, parse_protein_body}
 use Rattle.lang_bodies.specs.Settled.{settled_protein_body}
 use Rattle.read_scan.specs.declared.Faults.{Faults}

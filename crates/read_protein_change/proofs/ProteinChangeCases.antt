@@ -7,8 +7,9 @@ use mathlib.Core.Bool.{Bool, true, false, cond, ◌&&◌}
 use native.Mathlib.Omega.{arith}
 use lib.ListN.{length, take, drop, length-append, length-drop}
 use Rattle.texts.specs.Ascii.{ascii}
-use Rattle.texts.specs.Slices.{tail_part, tail_at, tail_beyond}
-use Rattle.texts.specs.Words.{starts, starts_length}
+use Rattle.texts.proofs.Slices.{tail_part, tail_at, tail_beyond}
+use Rattle.texts.specs.Words.{starts}
+use Rattle.texts.proofs.Words.{starts_length}
 use Rattle.record.specs.declared.Kind.TheVariants.{Prot}
 use Rattle.record.specs.declared.MuProteinEdit.{MuProteinEdit}
 use Rattle.record.specs.declared.MuProteinEdit.TheVariants.{Uncertain}
@@ -19,12 +20,12 @@ use Rattle.grammar.specs.ProteinEdits.{ProteinEditTree, print_protein_edit}
 use Rattle.grammar.specs.Bodies.{print_ends, ProteinBody.change, ProteinBody.bracketed, print_protein_body}
 use Rattle.grammar.specs.Records.{interval_at, location_at, uncertainly, protein_edit_at}
 use Rattle.grammar.specs.Numbers.{mu_numbers, ends_numbers, protein_edit_numbers}
-use Rattle.lang.specs.Lang.{within}
+use Rattle.lang.proofs.Lang.{within}
 use Rattle.lang.specs.Canon.{map_o}
 use Rattle.lang.specs.MuCanon.{settled_mu}
-use Rattle.lang_locations.specs.Languages.{ends_lang}
+use Rattle.lang_locations.proofs.Languages.{ends_lang}
 use Rattle.lang_locations.specs.Settled.{settled_ends}
-use Rattle.lang_protein_edits.specs.Instance.{protein_edit_lang, mu_protein_edit_lang}
+use Rattle.lang_protein_edits.proofs.Instance.{protein_edit_lang, mu_protein_edit_lang}
 use Rattle.lang_protein_edits.specs.Settled.{settled_protein_edit}
 use Rattle.lang_bodies.specs.ProteinBodies.{closing, parse_bare, parse_opened, parse_ordinary}
 use Rattle.read_scan.specs.declared.Faults.{Faults}

@@ -3,7 +3,7 @@
 
 ghost use Rattle.std.specs.Prelude.{◌≡◌, ◌+◌, ◌≤◌, length};
 ghost use Rattle.alphabet.specs.Cells.{IsTable};
-ghost use Rattle.lang_protein_edits.specs.Instance.{protein_edit_lang, mu_protein_edit_lang};
+ghost use Rattle.lang_protein_edits.proofs.Instance.{protein_edit_lang, mu_protein_edit_lang};
 ghost use Rattle.lang_bodies.specs.ProteinBodies.{parse_bare, parse_opened, parse_ordinary};
 ghost use Rattle.read_protein_change.specs.ProteinChangeAnswers.{ordinary_answer, after_answer, inside_answer};
 

@@ -8,8 +8,10 @@ use native.Mathlib.Omega.{arith}
 use lib.ListN.{length, take, drop, length-append, length-drop}
 use lib.Seq.{length-take-le}
 use Rattle.texts.specs.Ascii.{ascii}
-use Rattle.texts.specs.Slices.{tail, tail_part, tail_room}
-use Rattle.texts.specs.Words.{starts, starts_length}
+use Rattle.texts.specs.Slices.{tail}
+use Rattle.texts.proofs.Slices.{tail_part, tail_room}
+use Rattle.texts.specs.Words.{starts}
+use Rattle.texts.proofs.Words.{starts_length}
 use Rattle.residue.specs.Reading.{residue_len, residues_len}
 use Rattle.residue.specs.ResiduesRead.{residue_le, residues_le}
 use Rattle.record.specs.declared.Span.{Span}
@@ -24,7 +26,7 @@ use Rattle.read_scan.specs.Findings.{merged}
 use Rattle.read_scan.specs.Faults.{none as noFault, not_settled, settled_if, settled_none}
 use Rattle.read_scan.specs.declared.Faults.{Faults}
 use Rattle.lang_protein_edits.specs.Parse.{bytes_of, stop_at, ext_end_at, residues_behind, inserted_at, worded_at, parse_with, parse}
-use Rattle.lang_protein_edits.specs.Complete.{bytes_some}
+use Rattle.lang_protein_edits.proofs.Complete.{bytes_some}
 use Rattle.lang_protein_edits.specs.Settled.{settled_protein_edit}
 use Rattle.read_protein_ends.specs.declared.ProteinEditRead.{ProteinEditRead}
 use Rattle.read_protein_ends.specs.declared.ProteinEditRead.TheVariants.{Nothing, Found}

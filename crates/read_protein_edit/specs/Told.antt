@@ -12,7 +12,7 @@ use Rattle.read_scan.specs.Accounts.{Cases, Told, told, unread}
 use Rattle.read_scan.specs.MuAccounts.{Bracketed}
 use Rattle.lang_protein_edits.specs.Settled.{settled_protein_edit}
 use Rattle.lang_protein_edits.specs.Parse.{parse}
-use Rattle.lang_protein_edits.specs.Instance.{protein_edit_lang, mu_protein_edit_lang}
+use Rattle.lang_protein_edits.proofs.Instance.{protein_edit_lang, mu_protein_edit_lang}
 use Rattle.read_protein_ends.specs.declared.ProteinEditRead.TheVariants as Edits
 use Rattle.read_protein_edit.specs.declared.MuProteinEditRead.TheVariants as Mus
 use Rattle.read_protein_edit.specs.ProteinEditAnswers.{protein_edits, protein_edit_answer, mu_protein_edits, mu_protein_edit_answer}

@@ -4,7 +4,7 @@
 ghost use Rattle.std.specs.Prelude.{◌≡◌, ◌+◌, ◌≤◌, length};
 ghost use Rattle.alphabet.specs.Cells.{IsTable};
 ghost use Rattle.lang_protein_edits.specs.Parse.{residues_behind, worded_at};
-ghost use Rattle.lang_protein_edits.specs.Instance.{protein_edit_lang, mu_protein_edit_lang};
+ghost use Rattle.lang_protein_edits.proofs.Instance.{protein_edit_lang, mu_protein_edit_lang};
 ghost use Rattle.read_protein_edit.specs.ProteinEditAnswers.{protein_edit_answer, mu_protein_edit_answer};
 
 use read_protein_ends::ProteinEditRead;

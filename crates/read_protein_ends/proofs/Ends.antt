@@ -12,9 +12,11 @@ use lib.ListN.{length, take, drop, length-append, length-drop}
 use lib.Seq.{length-take-le}
 use borrow.Author.Tests.{eq-eqb, ne_eqb}
 use Rattle.texts.specs.Ascii.{ascii}
-use Rattle.texts.specs.Slices.{tail, tail_part}
+use Rattle.texts.specs.Slices.{tail}
+use Rattle.texts.proofs.Slices.{tail_part}
 use Rattle.texts.specs.Runs.{run, front}
-use Rattle.texts.specs.Words.{starts, starts_length}
+use Rattle.texts.specs.Words.{starts}
+use Rattle.texts.proofs.Words.{starts_length}
 use Rattle.alphabet.specs.Letters.{digit}
 use Rattle.numerals.specs.Reading.{number_at}
 use Rattle.numerals.specs.declared.Number.{Number}
@@ -30,14 +32,14 @@ use Rattle.record.specs.declared.ProteinEdit.TheVariants.{Fs, Ext}
 use Rattle.grammar.specs.Optional.{print_optional}
 use Rattle.grammar.specs.ProteinEdits.{Terminal, Terminal.ter, Terminal.x, Terminal.star, Stop, Stop.stop, ExtEnd, ExtEnd.earlier, print_terminal, print_fs_end, print_ext_end}
 use Rattle.grammar.specs.Records.{span, part_of}
-use Rattle.lang.specs.Lang.{front_within}
+use Rattle.lang.proofs.Lang.{front_within}
 use Rattle.grammar.specs.Numbers.{Numeral.numeral}
 use Rattle.read_scan.specs.Faults.{faults, none as noFault, of_number, settled_if, faults_nil, settled_only}
 use Rattle.read_scan.specs.Reading.{number_run, number_len, number_le, number_value, number_faults}
 use Rattle.read_scan.specs.declared.Faults.{Faults}
 use Rattle.lang_protein_edits.specs.Parse.{bytes_of, terminal_at, length_at, stop_at, earlier_with, earlier_at, later_of, ext_end_at}
-use Rattle.lang_protein_edits.specs.Complete.{bytes_some}
-use Rattle.lang_protein_edits.specs.Sound.{bytes_print, terminal_sound, length_sound, fs_sound}
+use Rattle.lang_protein_edits.proofs.Complete.{bytes_some}
+use Rattle.lang_protein_edits.proofs.Sound.{bytes_print, terminal_sound, length_sound, fs_sound}
 use Rattle.read_protein_ends.specs.declared.ProteinEditRead.{ProteinEditRead}
 use Rattle.read_protein_ends.specs.declared.ProteinEditRead.TheVariants.{Nothing, Found}
 use Rattle.read_protein_ends.specs.declared.LengthRead.{LengthRead}

@@ -3,7 +3,7 @@ use Rattle.std.specs.Prelude.{ℕ, ◌<◌, ◌≡◌, List, Bool, length}
 use Rattle.std.proofs.Common.{sym}
 use Rattle.std.proofs.Math.Option.{Option, none, some}
 use Rattle.grammar.specs.Numbers.{Numeral, misfit, not_plain}
-use Rattle.lang.specs.ByParsed.{by_answer}
+use Rattle.lang.proofs.ByParsed.{by_answer}
 use Rattle.read_scan.specs.declared.Faults.{Faults}
 use Rattle.read_scan.specs.Faults.{not_plainly, does_not_fit, faults, verdict, verdict_unfit, verdict_not_plain, verdict_plain}
 

@@ -6,7 +6,8 @@ use Rattle.std.proofs.Math.Bool.{true, false, cond}
 use Rattle.std.proofs.Math.Dec.{eqb}
 use Rattle.std.proofs.lemmas.Bool.{eqb-false}
 use Rattle.texts.specs.Ascii.{ascii}
-use Rattle.texts.specs.Words.{starts, starts_length}
+use Rattle.texts.specs.Words.{starts}
+use Rattle.texts.proofs.Words.{starts_length}
 use Rattle.read_scan.specs.declared.Ending.{Ending}
 use Rattle.read_scan.specs.declared.Ending.TheVariants.{Bare, Closed, Missing}
 

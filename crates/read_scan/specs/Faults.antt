@@ -7,13 +7,14 @@ use Rattle.std.proofs.Math.Bool.{true, false}
 use native.Mathlib.Omega.{arith}
 use Rattle.std.proofs.Math.Dec.{ltb}
 use borrow.Author.Tests.{ne_eqb, ltb-true, ltb-false, lt-ltb}
-use Rattle.texts.specs.Tests.{none_some, and_false}
+use Rattle.texts.proofs.Tests.{none_some, and_false}
 use Rattle.numerals.specs.declared.Sign.{Sign}
 use Rattle.numerals.specs.Digits.{val}
 use Rattle.numerals.specs.Spelling.{is_plain}
 use Rattle.numerals.specs.Reading.{fits}
 use Rattle.grammar.specs.Numbers.{Numeral, Numeral.numeral, leftmost_failing, misfit, not_plain, Faultless}
-use Rattle.grammar.specs.NumberLaws.{every_number, is_faultless, all_plain, fits_faultless}
+use Rattle.grammar.specs.NumberLaws.{every_number, is_faultless, all_plain}
+use Rattle.grammar.proofs.NumberLaws.{fits_faultless}
 use Rattle.read_scan.specs.declared.Faults.{Faults}
 use Rattle.read_scan.specs.declared.Verdict.{Verdict}
 use Rattle.read_scan.specs.Findings.{Finding, told, leftmost_of, nothing_in, code_of, rank_in, place_in, merged, code_append, says_leftmost, says_none_above, says_settled}

@@ -2,7 +2,7 @@
 use Rattle.std.specs.Prelude.{ℕ, ◌+◌, ◌*◌, ◌/◌, ◌%◌, ◌≤◌, ◌<◌, ◌≡◌, refl, List, [], ◌∷◌, ◌++◌, Bool, true, false, cond, ◌&&◌, ltb, eqb}
 use Rattle.std.proofs.Common.{ap, arith, ltb-true, ltb-false, lt-ltb, le-ltb, eq-eqb, ne_eqb}
 use Rattle.std.proofs.Math.Option.{Option, none, some}
-use Rattle.texts.specs.Tests.{none_some}
+use Rattle.texts.proofs.Tests.{none_some}
 
 -- 0 and 1 are no ranks of findings: they stand for a part in which nothing is found
 pub record Finding : Type 0 where

@@ -2,14 +2,15 @@
 use Rattle.std.specs.Prelude.{ℕ, ◌+◌, ◌≤◌, ◌≡◌, List, Bool, length, drop}
 use Rattle.std.proofs.Common.{ap, ◌∙◌, add-zero}
 use Rattle.std.proofs.Math.Option.{Option, none, some}
-use Rattle.texts.specs.Slices.{tail, tail_part}
+use Rattle.texts.specs.Slices.{tail}
+use Rattle.texts.proofs.Slices.{tail_part}
 use Rattle.texts.specs.Brackets.{opening}
 use Rattle.grammar.specs.Shapes.{Mu, Mu.certain, Mu.uncertain, print_mu}
 use Rattle.grammar.specs.Numbers.{Numeral, mu_numbers}
 use Rattle.lang.specs.Lang.{Lang}
 use Rattle.lang.specs.MuLang.{parse_mu}
 use Rattle.lang.specs.MuCanon.{settled_mu}
-use Rattle.lang.specs.MuReading as Reading
+use Rattle.lang.proofs.MuReading as Reading
 use Rattle.read_scan.specs.declared.Faults.{Faults}
 use Rattle.read_scan.specs.declared.Ending.TheVariants.{Bare, Closed, Missing}
 use Rattle.read_scan.specs.Faults.{faults}

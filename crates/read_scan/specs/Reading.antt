@@ -2,11 +2,12 @@
 use Rattle.std.specs.Prelude.{ℕ, ◌≤◌, ◌≡◌, List, [], ◌∷◌, true, length}
 use Rattle.std.proofs.Common.{sym, ◌∙◌, arith, to_z, of_z}
 use Rattle.std.specs.Int.{w32}
-use Rattle.texts.specs.Runs.{run, front, run_le, front_length}
+use Rattle.texts.specs.Runs.{run, front}
+use Rattle.texts.proofs.Runs.{run_le, front_length}
 use Rattle.alphabet.specs.Letters.{digit}
 use Rattle.numerals.specs.Digits.{val}
 use Rattle.numerals.specs.Reading.{number_of, number_at}
-use Rattle.numerals.specs.Signs.{or_zero_held}
+use Rattle.numerals.proofs.Signs.{or_zero_held}
 use Rattle.numerals.specs.declared.Sign.{Sign}
 use Rattle.numerals.specs.declared.Number.{Number}
 use Rattle.grammar.specs.Meaning.{number}

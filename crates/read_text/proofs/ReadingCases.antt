@@ -13,10 +13,11 @@ use Rattle.record.specs.declared.Header.{Header}
 use Rattle.grammar.specs.Texts.{Text, all_letters}
 use Rattle.grammar.specs.Records.{record_at}
 use Rattle.grammar.specs.Numbers.{numbers_at}
-use Rattle.lang.specs.ByParsed.{by_answer}
-use Rattle.lang_bodies.specs.WholeText.{parse_text}
-use Rattle.lang_bodies.specs.Outcomes.{unfit_outcome, faultless_outcome, parsed_outcome, outcome_reads}
-use Rattle.lang_bodies.specs.Settled.{settled_text, is_settled, parsed_settled}
+use Rattle.lang.proofs.ByParsed.{by_answer}
+use Rattle.lang_bodies.proofs.WholeText.{parse_text}
+use Rattle.lang_bodies.proofs.Outcomes.{unfit_outcome, faultless_outcome, parsed_outcome, outcome_reads}
+use Rattle.lang_bodies.specs.Settled.{settled_text}
+use Rattle.lang_bodies.proofs.Settled.{is_settled, parsed_settled}
 use Rattle.promise.specs.Outcome.{Outcome.refused, limit}
 use Rattle.promise.specs.Reading.{tree_outcome}
 use Rattle.any_body.specs.declared.AnyBody.{AnyBody}
@@ -24,7 +25,7 @@ use Rattle.any_body.specs.AnyBodies.{any_body}
 use Rattle.read_scan.specs.declared.Faults.{Faults}
 use Rattle.read_scan.specs.declared.Verdict.{Verdict}
 use Rattle.read_scan.specs.Faults.{faults, does_not_fit, verdict, verdict_settled, verdict_faultless, verdict_unfit}
-use Rattle.lang_na_edits.specs.Alphabet.{alphabets}
+use Rattle.lang_na_edits.proofs.Alphabet.{alphabets}
 use Rattle.read_text.specs.TextAnswers.{TextFound.nothing, TextFound.found, text_answer}
 use Rattle.read_text.specs.declared.Reading.TheVariants.{Refused, Settled, Unsettled}
 use Rattle.read_text.specs.Telling.{ReadAs, Tells}

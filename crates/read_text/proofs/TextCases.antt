@@ -6,30 +6,31 @@ use mathlib.Core.Option.{Option, none, some}
 use mathlib.Core.Bool.{true, false}
 use native.Mathlib.Omega.{arith}
 use lib.ListN.{length, take, drop, length-append, length-drop}
-use Rattle.texts.specs.Tests.{clash}
-use Rattle.texts.specs.Slices.{tail_part, tail_at}
+use Rattle.texts.proofs.Tests.{clash}
+use Rattle.texts.proofs.Slices.{tail_part, tail_at}
 use Rattle.record.specs.declared.Kind.{Kind}
 use Rattle.record.specs.declared.Kind.TheVariants.{Cds, Genome, Mt, Tx, Prot, Rna}
 use Rattle.record.specs.declared.Header as Record
-use Rattle.grammar.specs.Header.{HeaderTree, print_header, print_kind, kind_length}
+use Rattle.grammar.specs.Header.{HeaderTree, print_header, print_kind}
+use Rattle.grammar.proofs.Header.{kind_length}
 use Rattle.grammar.specs.Shapes.{Both.both}
 use Rattle.grammar.specs.Bodies.{BodyTree}
 use Rattle.grammar.specs.Texts.{Text.text, all_letters}
 use Rattle.grammar.specs.Records.{header_at, body_at}
 use Rattle.grammar.specs.Numbers.{body_numbers}
 use Rattle.alphabet.specs.Letters.{nucleotide}
-use Rattle.lang.specs.ByParsed.{by_answer}
-use Rattle.lang.specs.Lang.{within}
+use Rattle.lang.proofs.ByParsed.{by_answer}
+use Rattle.lang.proofs.Lang.{within}
 use Rattle.lang.specs.Whole.{whole}
 use Rattle.lang.specs.Canon.{map_o}
 use Rattle.lang.specs.BothLang.{parse_both}
-use Rattle.lang_na_edits.specs.Alphabet.{nucleotides}
-use Rattle.lang_headers.specs.Sound.{header_lang}
-use Rattle.lang_headers.specs.Kinds.{kind_lang, heading_lang}
-use Rattle.lang_bodies.specs.NaBodies.{na_body_lang}
+use Rattle.lang_na_edits.proofs.Alphabet.{nucleotides}
+use Rattle.lang_headers.proofs.Sound.{header_lang}
+use Rattle.lang_headers.proofs.KindLang.{kind_lang, heading_lang}
+use Rattle.lang_bodies.proofs.NaBodies.{na_body_lang}
 use Rattle.lang_bodies.specs.ProteinBodies.{parse_protein_body}
-use Rattle.lang_bodies.specs.BodyLang.{parse_body}
-use Rattle.lang_bodies.specs.WholeText.{parse_text}
+use Rattle.lang_bodies.proofs.BodyLang.{parse_body}
+use Rattle.lang_bodies.proofs.WholeText.{parse_text}
 use Rattle.lang_bodies.specs.Settled.{settled_body}
 use Rattle.any_body.specs.declared.AnyBody.{AnyBody}
 use Rattle.any_body.specs.AnyBodies.{any_body}
@@ -41,7 +42,7 @@ use Rattle.read_header.specs.HeaderAnswers.{header_answer, kind_answer}
 use Rattle.read_na_body.specs.declared.BodyRead.{BodyRead}
 use Rattle.read_na_body.specs.declared.BodyRead.TheVariants as BR
 use Rattle.read_na_body.specs.NaBodyAnswers.{na_answer, body_answer, answer_cds, answer_genome, answer_mt, answer_tx, answer_rna}
-use Rattle.lang_na_edits.specs.Alphabet.{alphabets}
+use Rattle.lang_na_edits.proofs.Alphabet.{alphabets}
 use Rattle.read_text.specs.TextAnswers.{is_protein, TextFound.nothing, TextFound.found, text_answer}
 
 -- ---- the body of each kind

@@ -4,9 +4,9 @@ use Rattle.record.specs.declared.Header.{Header}
 use Rattle.record.specs.declared.HgvsVariant.{HgvsVariant}
 use Rattle.record.specs.declared.Refusal.TheVariants.{TooLong}
 use Rattle.grammar.specs.Texts.{all_letters}
-use Rattle.lang_na_edits.specs.Alphabet.{alphabets}
-use Rattle.lang_bodies.specs.Settled.{is_settled}
-use Rattle.lang_bodies.specs.Outcomes.{long_outcome, outcome_reads}
+use Rattle.lang_na_edits.proofs.Alphabet.{alphabets}
+use Rattle.lang_bodies.proofs.Settled.{is_settled}
+use Rattle.lang_bodies.proofs.Outcomes.{long_outcome, outcome_reads}
 use Rattle.promise.specs.Outcome.{Outcome.given, refusal_outcome, limit}
 use Rattle.promise.specs.Reading.{Reads}
 use Rattle.any_body.specs.declared.AnyBody.{AnyBody}

@@ -1,18 +1,18 @@
 -- Reading a text tells one thing.
 use Rattle.std.specs.Prelude.{ℕ, ◌≡◌, refl, List, Bool}
 use Rattle.std.proofs.Common.{sym, ap, ◌∙◌, arith}
-use Rattle.texts.specs.Tests.{clash}
+use Rattle.texts.proofs.Tests.{clash}
 use Rattle.record.specs.declared.Header.{Header}
 use Rattle.record.specs.declared.HgvsVariant.{HgvsVariant}
 use Rattle.record.specs.declared.Refusal.{Refusal}
 use Rattle.record.specs.declared.ReadAnswer.{ReadAnswer}
 use Rattle.record.specs.declared.ReadAnswer.TheVariants as R
 use Rattle.grammar.specs.Texts.{all_letters}
-use Rattle.lang_na_edits.specs.Alphabet.{alphabets}
-use Rattle.lang_bodies.specs.WholeText.{unambiguous}
+use Rattle.lang_na_edits.proofs.Alphabet.{alphabets}
+use Rattle.lang_bodies.proofs.WholeText.{unambiguous}
 use Rattle.promise.specs.Outcome.{refusal_outcome, read_outcome}
 use Rattle.promise.specs.Reading.{Reads}
-use Rattle.promise.specs.Unique.{one_read_answer}
+use Rattle.promise.proofs.Unique.{one_read_answer}
 use Rattle.any_body.specs.declared.AnyBody.{AnyBody}
 use Rattle.any_body.specs.AnyBodies.{any_body}
 use Rattle.read_text.specs.declared.Reading.{Reading}

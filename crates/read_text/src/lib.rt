@@ -4,8 +4,8 @@
 ghost use Rattle.std.specs.Prelude.{◌≡◌, ◌+◌, ◌≤◌, length};
 ghost use Rattle.alphabet.specs.Cells.{IsTable};
 ghost use Rattle.grammar.specs.Texts.{all_letters};
-ghost use Rattle.lang_na_edits.specs.Alphabet.{alphabets};
-ghost use Rattle.lang_bodies.specs.BodyLang.{parse_body};
+ghost use Rattle.lang_na_edits.proofs.Alphabet.{alphabets};
+ghost use Rattle.lang_bodies.proofs.BodyLang.{parse_body};
 ghost use Rattle.read_na_body.specs.NaBodyAnswers.{body_answer};
 ghost use Rattle.read_text.specs.TextAnswers.{is_protein};
 ghost use Rattle.read_text.specs.Telling.{Tells};

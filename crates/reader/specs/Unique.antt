@@ -2,11 +2,11 @@
 use Rattle.std.specs.Prelude.{ℕ, ◌≡◌, List}
 use Rattle.record.specs.declared.ReadAnswer.{ReadAnswer}
 use Rattle.grammar.specs.Texts.{Text, print, Wf, all_letters}
-use Rattle.lang_bodies.specs.WholeText.{unambiguous}
+use Rattle.lang_bodies.proofs.WholeText.{unambiguous}
 use Rattle.promise.specs.Outcome.{read_outcome}
 use Rattle.promise.specs.Reading.{Reads}
-use Rattle.promise.specs.Unique.{one_read_answer}
-use Rattle.lang_na_edits.specs.Alphabet.{alphabets}
+use Rattle.promise.proofs.Unique.{one_read_answer}
+use Rattle.lang_na_edits.proofs.Alphabet.{alphabets}
 
 -- the grammar is unambiguous
 pub one_tree : (x y : Text) → Wf all_letters x → Wf all_letters y → print x ≡ print y → x ≡ y

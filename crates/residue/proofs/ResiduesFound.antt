@@ -8,10 +8,11 @@ use lib.Dec.{eqb}
 use lib.ListN.{length, take, drop, get_or, length-drop}
 use lib.Seq.{drop-drop, take-length}
 use borrow.Author.Tests.{eqb-true, eqb-false, ne_eqb}
-use Rattle.texts.specs.Tests.{and-true, never}
+use Rattle.texts.proofs.Tests.{and-true, never}
 use Rattle.texts.specs.Runs.{run}
-use Rattle.texts.specs.Words.{starts, same, starts_take}
-use Rattle.texts.specs.Slices.{tail_part}
+use Rattle.texts.specs.Words.{starts, same}
+use Rattle.texts.proofs.Words.{starts_take}
+use Rattle.texts.proofs.Slices.{tail_part}
 use Rattle.alphabet.specs.Letters.{residue}
 use Rattle.residue_rows.specs.Rows.{rows, first_from, row_of}
 use Rattle.residue_rows.specs.EachRow.{each, long, rows_long}

@@ -6,11 +6,13 @@ use mathlib.Core.List.{List, [], ◌∷◌, ◌++◌, map, append-nil}
 use Rattle.std.proofs.Math.Logic.{⊎_elim}
 use Rattle.std.proofs.lemmas.Bool.{not-true}
 use Rattle.texts.specs.Ascii.{ascii}
-use Rattle.texts.specs.Tests.{and-true, true_and, or_true, left_or, right_or, never, clash}
-use Rattle.texts.specs.Runs.{every, every_append, every_wider, one_every, Some, run, run_le, run_nil, run_head, run_is, front, front_every}
-use Rattle.texts.specs.Words.{same, same_true}
+use Rattle.texts.proofs.Tests.{and-true, true_and, or_true, left_or, right_or, never, clash}
+use Rattle.texts.specs.Runs.{every, Some, run, front}
+use Rattle.texts.proofs.Runs.{every_append, every_wider, one_every, run_le, run_nil, run_head, run_is, front_every}
+use Rattle.texts.specs.Words.{same}
+use Rattle.texts.proofs.Words.{same_true}
 use Rattle.alphabet.specs.Letters.{among, digit, residue}
-use Rattle.alphabet.specs.Apart.{none_among}
+use Rattle.alphabet.proofs.Apart.{none_among}
 use Rattle.residue_rows.specs.Rows.{rows}
 use Rattle.residue_rows.specs.EachRow.{each, long, rows_long}
 use Rattle.residue.specs.Residues.{one_of, is_three, is_one, is_residue, threes, is_residues}

@@ -6,8 +6,9 @@ use mathlib.Core.List.{List, [], ◌∷◌}
 use native.Mathlib.Omega.{arith}
 use lib.ListN.{length, drop, get_or}
 use borrow.Author.Tests.{eqb-true}
-use Rattle.texts.specs.Tests.{and-true, never}
-use Rattle.texts.specs.Words.{starts, starts_length, starts_more, starts_differ, starts_end}
+use Rattle.texts.proofs.Tests.{and-true, never}
+use Rattle.texts.specs.Words.{starts}
+use Rattle.texts.proofs.Words.{starts_length, starts_more, starts_differ, starts_end}
 use Rattle.residue_rows.specs.Rows.{rows, first_from, row_of}
 use Rattle.residue_rows.specs.EachRow.{each, long, rows_long, row_length}
 use Rattle.residue_rows.specs.declared.RowFound.TheVariants.{Nothing}

@@ -3,8 +3,9 @@ use Rattle.std.specs.Prelude.{ℕ, zero, suc, ◌+◌, ◌≤◌, ◌<◌, ◌�
 use Rattle.std.proofs.Common.{◌∙◌, arith, drop-cons, ne_eqb}
 use Rattle.std.proofs.lemmas.Bool.{eqb-false}
 use Rattle.texts.specs.Ascii.{ascii}
-use Rattle.texts.specs.Tests.{clash}
-use Rattle.texts.specs.Words.{starts, starts_differ}
+use Rattle.texts.proofs.Tests.{clash}
+use Rattle.texts.specs.Words.{starts}
+use Rattle.texts.proofs.Words.{starts_differ}
 use Rattle.residue_rows.specs.Rows.{rows, first_from}
 use Rattle.residue_rows.specs.EachRow.{each, each_at, row_length}
 use Rattle.residue_rows.specs.Beginning.{letter_of, beginning_from, beginning, first_of}

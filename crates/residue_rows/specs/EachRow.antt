@@ -1,7 +1,7 @@
 -- What each of some rows passes; each of the rows of residues has three bytes.
 use Rattle.std.specs.Prelude.{ℕ, zero, suc, ◌<◌, ◌≡◌, refl, Bool, true, ◌&&◌, List, [], ◌∷◌, eqb, length, get_or}
 use Rattle.std.proofs.Common.{arith, eqb-true}
-use Rattle.texts.specs.Tests.{and-true}
+use Rattle.texts.proofs.Tests.{and-true}
 use Rattle.residue_rows.specs.Rows.{rows}
 
 abbrev pub each : (List ℕ → Bool) → List (List ℕ) → Bool

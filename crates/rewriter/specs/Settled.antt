@@ -2,23 +2,24 @@
 use Rattle.std.specs.Prelude.{ℕ, ◌≤◌, ◌≡◌, List, true, ◌&&◌, length}
 use Rattle.std.proofs.Common.{sym, ◌∙◌}
 use Rattle.std.proofs.Math.Option.{some}
-use Rattle.texts.specs.Tests.{and-true}
+use Rattle.texts.proofs.Tests.{and-true}
 use Rattle.record.specs.declared.HgvsVariant.{HgvsVariant}
 use Rattle.record.specs.declared.Wording.TheVariants.{Shortest}
 use Rattle.record.specs.declared.WriteAnswer.{WriteAnswer}
 use Rattle.grammar.specs.Texts.{all_letters}
 use Rattle.grammar.specs.Contents.{content}
-use Rattle.grammar.specs.ContentLaw.{content_is}
+use Rattle.grammar.proofs.ContentLaw.{content_is}
 use Rattle.grammar.specs.Numbers.{numbers_at}
 use Rattle.grammar.specs.NumberLaws.{is_faultless, all_plain}
-use Rattle.lang_na_edits.specs.Alphabet.{alphabets}
-use Rattle.lang_bodies.specs.WholeText.{parse_text, complete_text}
-use Rattle.lang_bodies.specs.Settled.{settled_text, is_settled, parsed_settled}
+use Rattle.lang_na_edits.proofs.Alphabet.{alphabets}
+use Rattle.lang_bodies.proofs.WholeText.{parse_text, complete_text}
+use Rattle.lang_bodies.specs.Settled.{settled_text}
+use Rattle.lang_bodies.proofs.Settled.{is_settled, parsed_settled}
 use Rattle.promise.specs.Outcome.{Outcome.given, write_outcome, limit}
 use Rattle.promise.specs.Reading.{Reads, Reads.accepted}
 use Rattle.promise.specs.Writing.{Writes, ToWrite}
-use Rattle.promise.specs.Accepted.{accepted_sound}
-use Rattle.lang_canon.specs.Settled.{settled_shortest}
+use Rattle.promise.proofs.Accepted.{accepted_sound}
+use Rattle.lang_canon.proofs.Settled.{settled_shortest}
 use Rattle.emit_text.specs.Answered.{answered, left}
 use Rattle.write_any.specs.AnyWrites.{text_writes}
 

@@ -1,11 +1,13 @@
 // For each line of the input its shortest text, or `! `, the refusal's number, a blank and its place.
-// A program has no exit status to give, so that a fault is told on standard error.
+// Its exit status is the same in each case, so that a fault is told on standard error.
 #![tactic(auto)]
 
-use libc::STDERR_FILENO;
+use std::io::Write;
 
-fn main() {
-    if !line_program::run() {
-        io::write_all(STDERR_FILENO, b"saltwhistle: a read or a write failed\n");
+fn main(rt: HostRuntime) {
+    if !line_program::run(&mut rt.stdin(), &mut rt.stdout()) {
+        let _ = rt
+            .stderr()
+            .write_all(b"saltwhistle: a read or a write failed\n");
     }
 }

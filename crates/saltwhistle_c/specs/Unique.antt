@@ -1,7 +1,7 @@
 -- An operation on a text has one answer, and leaves one output.
 use Rattle.std.specs.Prelude.{ℕ, ◌≡◌, refl, List, Bool, true, false}
 use Rattle.std.proofs.Common.{ap}
-use Rattle.texts.specs.Tests.{clash}
+use Rattle.texts.proofs.Tests.{clash}
 use Rattle.record.specs.declared.HgvsVariant.{HgvsVariant}
 use Rattle.grammar.specs.Texts.{all_letters}
 use Rattle.grammar.specs.Values.{Value}
@@ -9,9 +9,9 @@ use Rattle.promise.specs.Outcome.{Outcome, Outcome.given, Outcome.refused}
 use Rattle.promise.specs.Reading.{Reads}
 use Rattle.promise.specs.Writing.{ToWrite}
 use Rattle.promise.specs.NoRef.{NoRefText}
-use Rattle.promise.specs.Unique.{reads_unique, writes_unique, measures_unique, one_shortest, one_no_ref}
-use Rattle.lang_na_edits.specs.Alphabet.{alphabets}
-use Rattle.lang_bodies.specs.WholeText.{unambiguous}
+use Rattle.promise.proofs.Unique.{reads_unique, writes_unique, measures_unique, one_shortest, one_no_ref}
+use Rattle.lang_na_edits.proofs.Alphabet.{alphabets}
+use Rattle.lang_bodies.proofs.WholeText.{unambiguous}
 use Rattle.numbered.specs.declared.Answer.{Answer}
 use Rattle.numbered.specs.Numbered.{numbered, read_numbers}
 use Rattle.numbered.specs.TextOperations.{Checks, Rewrites, Gauges}

@@ -5,32 +5,7 @@ use Rattle.std.proofs.Math.Bool.{true, false}
 use Rattle.std.proofs.Common.{arith}
 use Rattle.std.proofs.Math.ListN.{length}
 use Rattle.texts.specs.Ascii.{ascii}
-use Rattle.texts.specs.Words.{starts, starts_length}
+use Rattle.texts.specs.Words.{starts}
 
 unfoldable pub opening : List ℕ → ℕ
 opening s = cond (starts (ascii "(") s) 1 0
-
-module _ (s : List ℕ) where
-  pub opening_none : opening s ≡ 0 → starts (ascii "(") s ≡ false
-  unfolding opening
-  opening_none e = go (starts (ascii "(") s) refl
-    where
-      go : (b : Bool) → starts (ascii "(") s ≡ b → starts (ascii "(") s ≡ false
-      go false q = q
-      go true q = absurd (let z : ◌≡◌ {A = ℕ} 1 0 = rw q at e in omega arith)
-
-  pub opening_one : (opening s ≡ 0 → ⊥) → (opening s ≡ 1) × (starts (ascii "(") s ≡ true)
-  unfolding opening
-  opening_one n = go (starts (ascii "(") s) refl
-    where
-      go : (b : Bool) → starts (ascii "(") s ≡ b → (opening s ≡ 1) × (starts (ascii "(") s ≡ true)
-      go true q = (rw q, q)
-      go false q = absurd (n (rw q))
-
-  pub opening_le : opening s ≤ length s
-  unfolding opening
-  opening_le = go (starts (ascii "(") s) refl
-    where
-      go : (b : Bool) → starts (ascii "(") s ≡ b → opening s ≤ length s
-      go true q = rw q (starts_length (ascii "(") s q)
-      go false q = rw q (omega arith)

@@ -8,7 +8,7 @@ use Rattle.texts.specs.Words.{starts, same, one_each}
 use Rattle.texts.specs.Brackets.{opening}
 use Rattle.texts.specs.Slices.{tail}
 use Rattle.texts.specs.Best.{Best, Best.shorter, Best.first, Before.less, Before.next}
-use Rattle.texts.specs.Tables.{Each, Agree, agreed}
+use Rattle.texts.specs.Tables.{Each}
 
 abbrev pub is_a : ℕ → Bool
 is_a b = eqb b (code "A")
@@ -35,10 +35,6 @@ tests =
     (every is_a [], true) ∷
     []
 
-pub tests_agree : Each Agree tests
-unfolding starts same every
-tests_agree = agreed tests refl
-
 abbrev pub counts : List (ℕ × ℕ)
 counts =
     (run is_a (ascii "AACA"), 2) ∷
@@ -48,10 +44,6 @@ counts =
     (opening (ascii "1)"), 0) ∷
     (opening [], 0) ∷
     []
-
-pub counts_agree : Each Agree counts
-unfolding run opening starts
-counts_agree = agreed counts refl
 
 abbrev pub pieces : List (List ℕ × List ℕ)
 pieces =
@@ -63,19 +55,9 @@ pieces =
     (tail 4 (ascii "c.1"), []) ∷
     []
 
-pub pieces_agree : Each Agree pieces
-unfolding run front behind
-pieces_agree = agreed pieces refl
-
 -- ---- of two texts, the first is to be written
 abbrev pub better : List (List ℕ × List ℕ)
 better =
     (ascii "T=", ascii "A>A") ∷
     (ascii "A>C", ascii "A>T") ∷
     []
-
-pub better_best : Each (λ r. Best r.0 r.1) better
-better_best =
-    let l : 2 < 3 = omega arith in
-    let b : code "C" < code "T" = omega arith in
-    (shorter l, (first (next (next (less b refl))), tt))

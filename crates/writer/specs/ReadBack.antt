@@ -3,23 +3,24 @@ use Rattle.std.specs.Prelude.{ℕ, ◌≤◌, ◌≡◌, refl, List, length, tak
 use Rattle.std.proofs.Common.{sym, ◌∙◌}
 use Rattle.std.proofs.Math.Option.{Option, none, some}
 use Rattle.std.proofs.Math.Seq.{take-append_seam}
-use Rattle.texts.specs.Best.{best_length}
+use Rattle.texts.proofs.Best.{best_length}
 use Rattle.record.specs.declared.HgvsVariant.{HgvsVariant}
 use Rattle.record.specs.declared.Wording.TheVariants.{NoRef}
 use Rattle.grammar.specs.Texts.{Text, all_letters}
 use Rattle.grammar.specs.Values.{Value}
 use Rattle.grammar.specs.Records.{record_at}
 use Rattle.grammar.specs.Contents.{content}
-use Rattle.grammar.specs.ContentLaw.{content_is}
-use Rattle.lang_na_edits.specs.Alphabet.{alphabets}
+use Rattle.grammar.proofs.ContentLaw.{content_is}
+use Rattle.lang_na_edits.proofs.Alphabet.{alphabets}
 use Rattle.promise.specs.Outcome.{Outcome.given, Outcome.refused, limit}
 use Rattle.promise.specs.Reading.{Reads, Reads.accepted}
 use Rattle.promise.specs.Writing.{Writes, ToWrite, ReadsAsValue, Unsound}
 use Rattle.promise.specs.NoRef.{NoRefText}
-use Rattle.promise.specs.Unique.{one_shortest}
-use Rattle.lang_canon.specs.TextCanon.{canon_text, text_some, text_none}
+use Rattle.promise.proofs.Unique.{one_shortest}
+use Rattle.lang_canon.specs.TextCanon.{canon_text}
+use Rattle.lang_canon.proofs.TextCanon.{text_some, text_none}
 use Rattle.lang_canon.specs.Changes.{changed}
-use Rattle.lang_canon.specs.NoRefCanon.{no_ref_some, no_ref_only}
+use Rattle.lang_canon.proofs.NoRefCanon.{no_ref_some, no_ref_only}
 
 -- a text that reads as a value, read
 pub record ReadBack (t : List ℕ) (v : Value) : Type 0 where

@@ -6,7 +6,7 @@ use Rattle.grammar.specs.Texts.{all_letters}
 use Rattle.promise.specs.Outcome.{write_outcome}
 use Rattle.promise.specs.Writing.{Writes, ToWrite}
 use Rattle.promise.specs.NoRef.{NoRefText}
-use Rattle.promise.specs.Unique.{one_write_answer, one_shortest, one_no_ref}
+use Rattle.promise.proofs.Unique.{one_write_answer, one_shortest, one_no_ref}
 
 module _ (source : List ℕ) (v : HgvsVariant) (output : List ℕ) (a b : WriteAnswer) (o p : List ℕ) where
   pub one_answer : Writes all_letters (ToWrite all_letters) source v output (write_outcome a) o → Writes all_letters (ToWrite all_letters) source v output (write_outcome b) p → (a ≡ b) × (o ≡ p)

@@ -2,9 +2,10 @@ use Prim.Native.Nat.{◌+◌, ◌≤◌, ◌-◌}
 use mathlib.Core.Path.{◌≡◌, ◌∙◌}
 use lib.ListN.{length, drop}
 use borrow.Author.Rules.{rules}
-use Rattle.texts.specs.Runs.{run, run_four_more}
+use Rattle.texts.specs.Runs.{run}
+use Rattle.texts.proofs.Runs.{run_four_more}
 use Rattle.alphabet.specs.Classes.{member}
-use Rattle.alphabet.specs.Flags.{four_flags}
+use Rattle.alphabet.proofs.Flags.{four_flags}
 use Rattle.alphabet.specs.declared.Class.TheVariants.{Nucleotide}
 use Rattle.alphabet.proofs.fours.Given as goal
 

@@ -4,7 +4,8 @@ use mathlib.Core.Bool.{true, false}
 use lib.ListN.{length, drop, get_or}
 use borrow.Author.Rules.{rules}
 use borrow.Author.Tests.{not-true, not-false}
-use Rattle.texts.specs.Runs.{run, run_more, run_stop, run_end}
+use Rattle.texts.specs.Runs.{run}
+use Rattle.texts.proofs.Runs.{run_more, run_stop, run_end}
 use Rattle.alphabet.specs.Classes.{member}
 use Rattle.alphabet.proofs.run_of.Given as goal
 

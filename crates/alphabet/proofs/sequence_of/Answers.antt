@@ -2,8 +2,9 @@ use Prim.Native.Nat.{◌+◌}
 use mathlib.Core.Path.{◌≡◌, ap}
 use native.Mathlib.Omega.{arith}
 use borrow.Author.Rules.{rules}
-use Rattle.texts.specs.Runs.{run, run_le}
-use Rattle.texts.specs.Slices.{tail_part}
+use Rattle.texts.specs.Runs.{run}
+use Rattle.texts.proofs.Runs.{run_le}
+use Rattle.texts.proofs.Slices.{tail_part}
 use Rattle.alphabet.specs.Classes.{member}
 use Rattle.alphabet.specs.declared.Class.TheVariants.{Nucleotide}
 use Rattle.alphabet.proofs.sequence_of.Goals as goal

@@ -1,4 +1,4 @@
-use Rattle.texts.specs.Tests.{both_fail, both_next}
+use Rattle.texts.proofs.Tests.{both_fail, both_next}
 use borrow.Author.Rules.{rules}
 use Rattle.any_location_same.proofs.same_based.Goals as goal
 

@@ -1,5 +1,5 @@
 use mathlib.Core.Bool.{and_assoc}
-use Rattle.texts.specs.Tests.{both_fail, both_next}
+use Rattle.texts.proofs.Tests.{both_fail, both_next}
 use borrow.Author.Rules.{rules}
 use Rattle.any_location_same.proofs.same_cds.Goals as goal
 

@@ -1,4 +1,4 @@
-use Rattle.lang_locations.specs.Equal.{machine_equal}
+use Rattle.lang_locations.proofs.Equal.{machine_equal}
 use Rattle.any_location_same.proofs.same_number.Goals as goal
 
 pub returns : goal.returns

@@ -1,6 +1,6 @@
 use native.Mathlib.Omega.{arith}
 use borrow.Author.Rules.{rules}
-use Rattle.grammar.specs.Header.{kind_length}
+use Rattle.grammar.proofs.Header.{kind_length}
 use Rattle.emit_kind.specs.Letters.{kind_text}
 use Rattle.emit_kind.proofs.put_kind.Goals as goal
 

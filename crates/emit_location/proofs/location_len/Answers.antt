@@ -1,6 +1,5 @@
 use native.Mathlib.Omega.{arith}
 use Rattle.emit_location.specs.LocationLengths.{place_length}
-use borrow.Author.Rules.{rules}
 use Rattle.emit_location.proofs.location_len.Goals as goal
 
 pub returns : goal.returns

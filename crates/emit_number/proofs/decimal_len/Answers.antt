@@ -4,7 +4,7 @@ use mathlib.Core.Path.{◌≡◌}
 use native.Mathlib.Omega.{arith}
 use lib.ListN.{length}
 use Rattle.numerals.specs.Digits.{dec}
-use Rattle.numerals.specs.Decimals.{dec_one_length, dec_more_length, dec_short}
+use Rattle.numerals.proofs.Decimals.{dec_one_length, dec_more_length, dec_short}
 use Rattle.emit_number.proofs.decimal_len.Goals as goal
 
 pub overflow_add-n : goal.overflow_add-n

@@ -1,6 +1,6 @@
 use borrow.Author.Rules.{rules}
 use mir.Facts.{to_z-of_z, sfits_widen, Fits-nat_abs}
-use Rattle.numerals.specs.Widened.{negation, negation_fits, widened}
+use Rattle.numerals.proofs.Widened.{negation, negation_fits, widened}
 use Rattle.emit_number.proofs.BelowZero.{Below, below_zero, not_below_zero}
 use Rattle.emit_number.proofs.magnitude.Goals as goal
 

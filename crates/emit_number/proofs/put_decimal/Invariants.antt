@@ -5,7 +5,7 @@ use borrow.Author.Rules.{rules}
 use lib.ListN.{length, length-set}
 use Rattle.lent.specs.Put.{put}
 use Rattle.numerals.specs.Digits.{dec}
-use Rattle.numerals.specs.Decimals.{dec_some, dec_more_length}
+use Rattle.numerals.proofs.Decimals.{dec_some, dec_more_length}
 use Rattle.emit_number.proofs.LastDigitFirst.{last_digit, only_digit}
 use Rattle.emit_number.proofs.put_decimal.Given as goal
 

@@ -1,6 +1,6 @@
 use native.Mathlib.Omega.{arith}
 use borrow.Author.Rules.{rules}
-use Rattle.numerals.specs.Decimals.{dec_short}
+use Rattle.numerals.proofs.Decimals.{dec_short}
 use Rattle.emit_piece.proofs.amount_len.Goals as goal
 
 pub returns-in-Count : goal.returns-in-Count

@@ -1,7 +1,7 @@
 -- The buffer has room for the byte, or not.
 use mathlib.Core.Path.{sym}
 use borrow.Author.Rules.{rules}
-use Rattle.frames.specs.Bytes.{added_room, added_full}
+use Rattle.frames.proofs.Bytes.{added_room, added_full}
 use Rattle.frame_take.proofs.add_byte.Goals as goal
 
 pub returns-then-len-buffer : goal.returns-then-len-buffer

@@ -2,7 +2,7 @@
 use mathlib.Core.Path.{sym, ◌∙◌}
 use borrow.Author.Rules.{rules}
 use Rattle.frames.specs.Taking.{Standing}
-use Rattle.frames.specs.Bytes.{after_end, after_other, after_bad, after_full, after_first, after_second}
+use Rattle.frames.proofs.Bytes.{after_end, after_other, after_bad, after_full, after_first, after_second}
 use Rattle.frame_take.proofs.ByteTests.{is_other, is_digit, with_state_lem}
 use Rattle.frame_take.proofs.after_byte.Goals as goal
 

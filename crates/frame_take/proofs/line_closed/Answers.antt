@@ -1,6 +1,6 @@
 -- A line with an odd digit is bad, and else the text is what it was.
 use mathlib.Core.Path.{sym}
-use Rattle.frames.specs.Bytes.{closed_even, closed_odd}
+use Rattle.frames.proofs.Bytes.{closed_even, closed_odd}
 use Rattle.frame_take.proofs.line_closed.Goals as goal
 
 pub returns-then-odd-eq0 : goal.returns-then-odd-eq0

@@ -4,7 +4,8 @@ use mathlib.Core.Bool.{true}
 use native.Mathlib.Omega.{arith}
 use borrow.Author.Rules.{rules}
 use borrow.Author.Tests.{not-true, not-false}
-use Rattle.texts.specs.Words.{starts, starts_length}
+use Rattle.texts.specs.Words.{starts}
+use Rattle.texts.proofs.Words.{starts_length}
 use Rattle.alphabet.specs.Classes.{member}
 use Rattle.header_lengths.proofs.CountedParts.{optional_no_word, optional_fits, optional_empty, optional_found}
 use Rattle.header_lengths.proofs.optional.Goals as goal

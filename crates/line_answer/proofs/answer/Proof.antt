@@ -2,7 +2,7 @@ use mathlib.Core.Bool.{cond}
 use native.Mathlib.Omega.{arith}
 use Rattle.lent.specs.Put.{then}
 use Rattle.lines.specs.Lines.{Held.whole, Held.too_long}
-use Rattle.line_promise.specs.OneLineAnswer.{answer_short}
+use Rattle.line_promise.proofs.OneLineAnswer.{answer_short}
 use borrow.Author.Rules.{rules}
 use Rattle.line_answer.proofs.answer.Statement.{statement}
 use Rattle.line_answer.proofs.answer.Tie as tie

@@ -10,7 +10,7 @@ use Rattle.promise.specs.Reading.{Reads}
 use Rattle.lines.specs.Lines.{Held.whole}
 use Rattle.line_promise.specs.LineAnswers.{refusal as refusalText}
 use Rattle.line_promise.specs.Computed.{line_answer}
-use Rattle.line_promise.specs.OneLineAnswer.{answer_short, refusal_short, refused_small}
+use Rattle.line_promise.proofs.OneLineAnswer.{answer_short, refusal_short, refused_small}
 use Rattle.line_answer.proofs.AnswerRoom.{long_answer, held_answer, number_answer, text_answer_lem, refusal_answer}
 use borrow.Author.Rules.{rules}
 use Rattle.line_answer.proofs.put_answer.Statement.{statement}

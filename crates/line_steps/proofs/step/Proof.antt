@@ -1,8 +1,8 @@
 use Prim.Native.Nat.{◌+◌, ◌-◌, ◌≤◌}
 use native.Mathlib.Omega.{arith}
 use lib.ListN.{length, drop}
-use Rattle.texts.specs.Slices.{tail_part}
-use Rattle.lines.specs.Steps.{Standing, standing_start, used_more, standing_more, stepped_all, stepped_full}
+use Rattle.texts.proofs.Slices.{tail_part}
+use Rattle.lines.proofs.Steps.{Standing, standing_start, used_more, standing_more, stepped_all, stepped_full}
 use Rattle.line_promise.specs.Computed.{line_answer}
 use Rattle.line_promise.specs.Output.{most_bytes}
 use Rattle.line_steps.proofs.EndedAnswer.{said_short}

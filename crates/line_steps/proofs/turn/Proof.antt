@@ -1,4 +1,4 @@
-use Rattle.lines.specs.Steps.{went_open, went_ended, taken_within}
+use Rattle.lines.proofs.Steps.{went_open, went_ended, taken_within}
 use Rattle.line_promise.specs.Computed.{line_answer}
 use borrow.Author.Rules.{rules}
 use borrow.Author.Tests.{not-true, not-false}

@@ -4,7 +4,8 @@ use native.Mathlib.Omega.{arith}
 use lib.ListN.{length, drop}
 use borrow.Author.Rules.{rules}
 use borrow.Author.Tests.{eq-eqb, ne_eqb}
-use Rattle.texts.specs.Runs.{run, run_more, run_stop, run_end}
+use Rattle.texts.specs.Runs.{run}
+use Rattle.texts.proofs.Runs.{run_more, run_stop, run_end}
 use Rattle.lines.specs.Taking.{in_line}
 use Rattle.line_take.proofs.before_end.Given as goal
 

@@ -5,7 +5,7 @@ use native.Mathlib.Omega.{arith}
 use lib.Seq.{length-take-le}
 use borrow.Author.Rules.{rules}
 use borrow.Author.Tests.{lt-ltb, le-ltb}
-use Rattle.texts.specs.Runs.{run_le}
+use Rattle.texts.proofs.Runs.{run_le}
 use Rattle.lines.specs.Taking.{in_line}
 use Rattle.line_take.proofs.TakingParts.{took}
 use Rattle.line_take.proofs.take.Goals as goal

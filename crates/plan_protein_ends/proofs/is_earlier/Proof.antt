@@ -1,7 +1,7 @@
 use mir.Syntax.{w32}
 use mir.Val.{SFits}
 use mir.Facts.{to_z-of_z}
-use Rattle.texts.specs.Tests.{both_fail, both_next}
+use Rattle.texts.proofs.Tests.{both_fail, both_next}
 use borrow.Author.Rules.{rules}
 use Rattle.plan_protein_ends.proofs.is_earlier.Statement.{statement}
 use Rattle.plan_protein_ends.proofs.is_earlier.Tie as tie

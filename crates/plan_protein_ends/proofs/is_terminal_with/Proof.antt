@@ -1,5 +1,5 @@
 use mathlib.Core.Path.{ap, ◌∙◌}
-use Rattle.texts.specs.Tests.{both_fail, both_next}
+use Rattle.texts.proofs.Tests.{both_fail, both_next}
 use Rattle.plan_protein_tests.specs.Tests.{is_terminal}
 use borrow.Author.Rules.{rules}
 use Rattle.plan_protein_ends.proofs.is_terminal_with.Statement.{statement}

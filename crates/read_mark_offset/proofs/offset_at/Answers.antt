@@ -1,8 +1,9 @@
 use mathlib.Core.Path.{◌≡◌, sym, ◌∙◌}
 use mathlib.Core.Bool.{true, false}
 use Rattle.texts.specs.Ascii.{ascii}
-use Rattle.texts.specs.Words.{starts, starts_length}
-use Rattle.texts.specs.Slices.{tail_room}
+use Rattle.texts.specs.Words.{starts}
+use Rattle.texts.proofs.Words.{starts_length}
+use Rattle.texts.proofs.Slices.{tail_room}
 use Rattle.read_mark_offset.proofs.MarkOffsetCases.{offset_above, offset_ahead, offset_back, offset_missing}
 use borrow.Author.Rules.{rules}
 use Rattle.read_mark_offset.proofs.offset_at.Goals as goal

@@ -2,7 +2,7 @@ use Prim.Native.Nat.{◌+◌, ◌-◌}
 use mathlib.Core.Path.{sym, ◌∙◌}
 use native.Mathlib.Omega.{arith}
 use lib.ListN.{length, take, drop}
-use Rattle.texts.specs.Slices.{tail_room}
+use Rattle.texts.proofs.Slices.{tail_room}
 use Rattle.read_location.specs.Told.{LocationTold, location_told, location_unread, location_within}
 use Rattle.read_na_edit.specs.Told.{MuTold, mu_told, mu_unread}
 use Rattle.read_na_body.proofs.NaBodyCases.{no_location, no_edit, edit_le, not_ended, body_found}

@@ -4,8 +4,9 @@ use mathlib.Core.Path.{◌≡◌, sym, ◌∙◌}
 use native.Mathlib.Omega.{arith}
 use lib.ListN.{length}
 use borrow.Author.Rules.{rules}
-use Rattle.texts.specs.Slices.{tail, tail_room}
-use Rattle.texts.specs.Brackets.{opening_le}
+use Rattle.texts.specs.Slices.{tail}
+use Rattle.texts.proofs.Slices.{tail_room}
+use Rattle.texts.proofs.Bracketing.{opening_le}
 use Rattle.read_scan.specs.MuAccounts.{mu_none, mu_le, mu_bare, mu_closed, mu_missing}
 use Rattle.alphabet.specs.Letters.{nucleotide}
 use Rattle.lang_na_edits.specs.Parse.{parse_na_edit}

@@ -4,7 +4,8 @@ use mathlib.Core.Path.{refl, sym, ◌∙◌}
 use native.Mathlib.Omega.{arith}
 use lib.ListN.{length}
 use Rattle.texts.specs.Ascii.{ascii}
-use Rattle.texts.specs.Runs.{front, front_length}
+use Rattle.texts.specs.Runs.{front}
+use Rattle.texts.proofs.Runs.{front_length}
 use Rattle.alphabet.specs.Letters.{digit, nucleotide}
 use Rattle.alphabet.specs.Classes.{member}
 use Rattle.record.specs.declared.NaEdit.TheVariants.{InvRef, InvNum}

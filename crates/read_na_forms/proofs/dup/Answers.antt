@@ -5,7 +5,8 @@ use mathlib.Core.Bool.{true}
 use native.Mathlib.Omega.{arith}
 use lib.ListN.{length, take, drop}
 use Rattle.texts.specs.Ascii.{ascii}
-use Rattle.texts.specs.Runs.{front, front_length}
+use Rattle.texts.specs.Runs.{front}
+use Rattle.texts.proofs.Runs.{front_length}
 use Rattle.texts.specs.Words.{starts}
 use Rattle.alphabet.specs.Letters.{nucleotide}
 use Rattle.alphabet.specs.Classes.{member}

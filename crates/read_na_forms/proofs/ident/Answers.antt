@@ -4,7 +4,8 @@ use mathlib.Core.Path.{◌≡◌, sym, ap, ◌∙◌}
 use native.Mathlib.Omega.{arith}
 use lib.ListN.{length}
 use Rattle.texts.specs.Ascii.{ascii}
-use Rattle.texts.specs.Runs.{front, behind, front_length}
+use Rattle.texts.specs.Runs.{front, behind}
+use Rattle.texts.proofs.Runs.{front_length}
 use Rattle.texts.specs.Words.{starts}
 use Rattle.alphabet.specs.Letters.{nucleotide}
 use Rattle.alphabet.specs.Classes.{member}

@@ -5,9 +5,10 @@ use native.Mathlib.Omega.{arith}
 use borrow.Author.Rules.{rules}
 use borrow.Author.Tests.{not-true, not-false}
 use lib.ListN.{length, get_or, take, drop}
-use Rattle.texts.specs.Runs.{run, run_more, run_stop, run_end}
+use Rattle.texts.specs.Runs.{run}
+use Rattle.texts.proofs.Runs.{run_more, run_stop, run_end}
 use Rattle.alphabet.specs.Letters.{digit}
-use Rattle.alphabet.specs.Apart.{digit_bounds}
+use Rattle.alphabet.proofs.Apart.{digit_bounds}
 use Rattle.alphabet.specs.Classes.{member}
 use Rattle.numerals.specs.Digits.{val_from, val}
 use Rattle.numerals.specs.Reading.{too_large}

@@ -1,7 +1,7 @@
 use mir.Syntax.{w32}
 use borrow.Author.Rules.{rules, sfits_of}
 use mir.Facts.{to_z-of_z}
-use Rattle.numerals.specs.Numbers.{number_fit, number_misfit}
+use Rattle.numerals.proofs.Numbers.{number_fit, number_misfit}
 use Rattle.read_number.proofs.number_of.Goals as goal
 
 pub returns-then-v-limit : goal.returns-then-v-limit

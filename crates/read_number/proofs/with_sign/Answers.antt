@@ -2,7 +2,7 @@ use mathlib.Core.Path.{refl, ◌∙◌}
 use borrow.Author.Rules.{rules, sfits_of}
 use mir.Syntax.{w32}
 use mir.Facts.{to_z-of_z, to_z_pos}
-use Rattle.numerals.specs.Signs.{most_bound}
+use Rattle.numerals.proofs.Signs.{most_bound}
 use Rattle.read_number.proofs.SignedValues.{positive_fits}
 use Rattle.read_number.proofs.with_sign.Goals as goal
 

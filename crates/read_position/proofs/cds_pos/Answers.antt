@@ -1,7 +1,7 @@
 use Prim.Native.Nat.{◌+◌, ◌≤◌}
 use native.Mathlib.Omega.{arith}
 use lib.ListN.{length}
-use Rattle.texts.specs.Slices.{tail_room}
+use Rattle.texts.proofs.Slices.{tail_room}
 use Rattle.read_position.proofs.Positions.{based_mark, based_number_lem, based_offset, based_none, based_some}
 use borrow.Author.Rules.{rules}
 use Rattle.read_position.proofs.cds_pos.Goals as goal

@@ -2,7 +2,7 @@ use mathlib.Core.Path.{sym, ◌∙◌}
 use native.Mathlib.Omega.{arith}
 use Rattle.record.specs.declared.Kind.TheVariants.{Prot}
 use Rattle.read_location.specs.Told.{IntervalTold, interval_told, interval_within}
-use Rattle.texts.specs.Slices.{tail_room}
+use Rattle.texts.proofs.Slices.{tail_room}
 use Rattle.read_protein_change.proofs.ProteinChangeCases.{bare_none, bare_found}
 use borrow.Author.Rules.{rules}
 use Rattle.read_protein_change.proofs.bare.Goals as goal

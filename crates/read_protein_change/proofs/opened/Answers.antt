@@ -5,7 +5,7 @@ use Prim.Native.Nat.{◌+◌, ◌-◌}
 use lib.ListN.{length, take, drop}
 use Rattle.texts.specs.Ascii.{ascii}
 use Rattle.texts.specs.Words.{starts}
-use Rattle.texts.specs.Slices.{tail_room}
+use Rattle.texts.proofs.Slices.{tail_room}
 use Rattle.record.specs.declared.Kind.TheVariants.{Prot}
 use Rattle.read_location.specs.Told.{IntervalTold, interval_told, interval_within}
 use Rattle.read_protein_change.proofs.ProteinChangeCases.{opened_none, closed_le, shut_found, brackets_found}

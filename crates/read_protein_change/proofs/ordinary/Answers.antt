@@ -1,7 +1,8 @@
 use mathlib.Core.Path.{◌≡◌, sym, ◌∙◌}
 use Rattle.texts.specs.Ascii.{ascii}
-use Rattle.texts.specs.Words.{starts, starts_length}
-use Rattle.texts.specs.Slices.{tail_room}
+use Rattle.texts.specs.Words.{starts}
+use Rattle.texts.proofs.Words.{starts_length}
+use Rattle.texts.proofs.Slices.{tail_room}
 use mathlib.Core.Bool.{true}
 use Prim.Native.Nat.{◌≤◌}
 use lib.ListN.{length}

@@ -7,7 +7,8 @@ use native.Mathlib.Omega.{arith}
 use lib.ListN.{length}
 use Rattle.texts.specs.Slices.{tail}
 use Rattle.texts.specs.Ascii.{ascii}
-use Rattle.texts.specs.Words.{starts, starts_length}
+use Rattle.texts.specs.Words.{starts}
+use Rattle.texts.proofs.Words.{starts_length}
 use Rattle.read_protein_edit.proofs.ProteinEditCases.{front_le, word_room, found_fs, found_ext, found_equal, found_unknown, found_subst, found_worded}
 use borrow.Author.Rules.{rules}
 use Rattle.read_protein_edit.proofs.protein_edit_at.Goals as goal

@@ -2,7 +2,8 @@
 use mathlib.Core.Path.{◌≡◌, sym, ◌∙◌}
 use mathlib.Core.Bool.{true}
 use borrow.Author.Tests.{not-true, not-false}
-use Rattle.texts.specs.Words.{starts, starts_length}
+use Rattle.texts.specs.Words.{starts}
+use Rattle.texts.proofs.Words.{starts_length}
 use Rattle.read_protein_edit.proofs.ProteinEditCases.{behind_is, behind_none}
 use borrow.Author.Rules.{rules}
 use Rattle.read_protein_edit.proofs.residues_behind.Goals as goal

@@ -7,7 +7,8 @@ use lib.ListN.{length}
 use borrow.Author.Tests.{not-true, not-false}
 use Rattle.texts.specs.Slices.{tail}
 use Rattle.texts.specs.Ascii.{ascii}
-use Rattle.texts.specs.Words.{starts, starts_length}
+use Rattle.texts.specs.Words.{starts}
+use Rattle.texts.proofs.Words.{starts_length}
 use Rattle.read_protein_ends.proofs.Ends.{behind_residue, no_minus, no_digits, earlier_room, earlier_found}
 use borrow.Author.Rules.{rules}
 use Rattle.read_protein_ends.proofs.ext_neg_shift.Goals as goal

@@ -3,7 +3,8 @@ use Prim.Native.Nat.{◌+◌, ◌≤◌}
 use mathlib.Core.Path.{ap}
 use native.Mathlib.Omega.{arith}
 use lib.ListN.{length, length-drop}
-use Rattle.texts.specs.Slices.{tail, tail_part}
+use Rattle.texts.specs.Slices.{tail}
+use Rattle.texts.proofs.Slices.{tail_part}
 use Rattle.read_protein_ends.proofs.Ends.{terminal_le, length_le, stop_none, stop_some}
 use borrow.Author.Rules.{rules}
 use Rattle.read_protein_ends.proofs.stop_at.Goals as goal

@@ -7,7 +7,7 @@ use borrow.Author.Rules.{rules}
 use borrow.Author.Tests.{not-true, not-false}
 use Rattle.texts.specs.Ascii.{ascii}
 use Rattle.texts.specs.Words.{starts}
-use Rattle.texts.specs.Slices.{tail_part}
+use Rattle.texts.proofs.Slices.{tail_part}
 use Rattle.read_scan.specs.Closing.{none_opened, is_closed, is_missing, closing_room}
 use Rattle.read_scan.proofs.closing.Goals as goal
 

@@ -3,8 +3,8 @@ use native.Mathlib.Omega.{arith}
 use mathlib.Core.Option.{some}
 use Prim.Native.Nat.{◌+◌, ◌-◌, ◌≤◌}
 use lib.ListN.{length, take, drop}
-use Rattle.lang_headers.specs.Kinds.{kind_lang}
-use Rattle.texts.specs.Slices.{tail_room}
+use Rattle.lang_headers.proofs.KindLang.{kind_lang}
+use Rattle.texts.proofs.Slices.{tail_room}
 use Rattle.read_text.specs.Telling.{long_told}
 use Rattle.read_text.proofs.TextCases.{HeaderTold, header_told, no_header, header_le, kind_told, no_kind, kind_le, no_body, text_found}
 use Rattle.read_text.proofs.ReadingCases.{TextTold, text_told, reads_nothing, reads_unfit, reads_settled, reads_unsettled}

@@ -1,5 +1,5 @@
 -- The first test, and where it holds the second.
-use Rattle.texts.specs.Tests.{both_fail, both_next}
+use Rattle.texts.proofs.Tests.{both_fail, both_next}
 use borrow.Author.Rules.{rules}
 use Rattle.record_inside.proofs.optionals_inside.Goals as goal
 

@@ -1,6 +1,6 @@
 -- Only a body that is location and edit has spans.
 use Rattle.grammar.specs.Contents.{prot_body_inside}
-use Rattle.texts.specs.Tests.{both_fail, both_next}
+use Rattle.texts.proofs.Tests.{both_fail, both_next}
 use Rattle.record_inside.proofs.ArmTests.{told}
 use borrow.Author.Rules.{rules}
 use Rattle.record_inside.proofs.prot_body_inside.Goals as goal

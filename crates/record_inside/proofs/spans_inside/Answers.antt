@@ -1,5 +1,5 @@
 -- The accession and the gene, and where they lie inside the body.
-use Rattle.texts.specs.Tests.{both_fail, both_next}
+use Rattle.texts.proofs.Tests.{both_fail, both_next}
 use borrow.Author.Rules.{rules}
 use Rattle.record_inside.proofs.spans_inside.Goals as goal
 

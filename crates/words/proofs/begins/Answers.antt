@@ -3,7 +3,8 @@ use mathlib.Core.Path.{◌≡◌, refl, sym, ◌∙◌}
 use Prim.Native.Nat.{◌-◌, ◌≤◌}
 use native.Mathlib.Omega.{arith}
 use lib.ListN.{length, drop}
-use Rattle.texts.specs.Words.{starts, starts_short, starts_more, starts_differ, starts_end}
+use Rattle.texts.specs.Words.{starts}
+use Rattle.texts.proofs.Words.{starts_short, starts_more, starts_differ, starts_end}
 use Rattle.words.proofs.begins.Goals as goal
 
 pub loop-i-init : goal.loop-i-init

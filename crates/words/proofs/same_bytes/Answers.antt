@@ -1,5 +1,5 @@
 use mathlib.Core.Path.{sym, ◌∙◌}
-use Rattle.texts.specs.Words.{same_starts, same_lengths}
+use Rattle.texts.proofs.Words.{same_starts, same_lengths}
 use borrow.Author.Rules.{rules}
 use Rattle.words.proofs.same_bytes.Goals as goal
 

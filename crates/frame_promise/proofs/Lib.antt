@@ -1,0 +1,4 @@
+pub mod Cuts
+pub mod OneAnswer
+pub mod Some
+pub mod StreamTexts

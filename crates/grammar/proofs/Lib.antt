@@ -1,0 +1,12 @@
+pub mod Header
+pub mod OneReading
+pub mod NumberLaws
+pub mod RespelledLaws
+pub mod Standing
+pub mod ContentLaw
+pub mod SpanLaw
+pub mod OrderLaw
+pub mod PlaceLaw
+pub mod BytesLaw
+pub mod Examples
+pub mod WellFormed

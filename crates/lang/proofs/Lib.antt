@@ -1,0 +1,13 @@
+pub mod Choice
+pub mod ByParsed
+pub mod Lang
+pub mod Whole
+pub mod MuLang
+pub mod MuReading
+pub mod BothLang
+pub mod IntervalLang
+pub mod Canon
+pub mod MuCanon
+pub mod BothCanon
+pub mod IntervalCanon
+pub mod Examples

@@ -1,0 +1,11 @@
+pub mod NaBodies
+pub mod ProteinSound
+pub mod BodyLang
+pub mod WholeText
+pub mod Trees
+pub mod TextOutcome
+pub mod Outcomes
+pub mod Spellings
+pub mod Settled
+pub mod Computing
+pub mod Examples

@@ -1,0 +1,4 @@
+pub mod Optionals
+pub mod Sound
+pub mod KindLang
+pub mod Canonical

@@ -1,0 +1,2 @@
+pub mod OneLineAnswer
+pub mod Output

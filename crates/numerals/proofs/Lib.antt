@@ -1,0 +1,9 @@
+pub mod Values
+pub mod Decimals
+pub mod Signs
+pub mod Numbers
+pub mod Written
+pub mod Plain
+pub mod OnePlain
+pub mod Widened
+pub mod Examples

@@ -1,0 +1,11 @@
+use mathlib.Core.Path.{ap}
+use mir.Facts.{to_z-of_z}
+use mir.Syntax.{w32}
+use mir.Val.{SFits}
+use Rattle.emit_piece.specs.declared.Amount.TheVariants.{Count}
+use Rattle.plan_location.proofs.PlanCases.{held_true}
+use borrow.Author.Rules.{rules}
+use Rattle.plan_location.proofs.offset_amount.Goals as goal
+
+pub returns-in-By : goal.returns-in-By
+returns-in-By c = let f : SFits w32 c.in-By.n = search rules in rw c.in-By.is (ap Count (rw (to_z-of_z {w = w32} f) at c.magnitude.ensures), held_true f)

@@ -1,0 +1,4 @@
+pub mod Accepted
+pub mod NoBaseZero
+pub mod Unique
+pub mod Examples

@@ -1,0 +1,9 @@
+pub mod Tests
+pub mod Runs
+pub mod Words
+pub mod Bracketing
+pub mod Slices
+pub mod Best
+pub mod Unique
+pub mod Tables
+pub mod Examples
