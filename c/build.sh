@@ -1,5 +1,5 @@
 #!/usr/bin/env bash
-# Builds the library for C, target/c/libsaltwhistle.a, proving it again, and the example over it, target/c/example. Both are for x86-64.
+# Proves and builds the library for C, target/c/libsaltwhistle.a, and builds the example over it, target/c/example. Both are for x86-64.
 set -euo pipefail
 cd "$(dirname "$0")/.."
 for tool in rt gcc; do
@@ -8,9 +8,9 @@ for tool in rt gcc; do
     exit 2
   fi
 done
-rt staticlib saltwhistle_c
+(cd crates/saltwhistle_c && rt lib)
 mkdir -p target/c
-cp target/staticlib/libsaltwhistle_c.a target/c/libsaltwhistle.a
+cp crates/saltwhistle_c/out/libsaltwhistle_c.a target/c/libsaltwhistle.a
 if [ "$(uname -m)" != x86_64 ]; then
   echo "built target/c/libsaltwhistle.a; the example links it, and needs an x86-64 machine"
   exit
