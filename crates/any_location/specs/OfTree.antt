@@ -1,5 +1,5 @@
 -- The position and the location of any kind that a tree means, its spans where it stands in a text.
-use Rattle.std.specs.Prelude.{ℕ, ◌+◌, ◌≡◌, refl, Bool, true, false, ℤ, pos, length}
+use Rattle.std.specs.Prelude.{ℕ, ◌+◌, Bool, true, false, ℤ, pos, length}
 use Rattle.numerals.specs.declared.Sign.TheVariants.{Unsigned}
 use Rattle.record.specs.declared.Span.{Span}
 use Rattle.record.specs.declared.Kind.{Kind}
@@ -65,7 +65,3 @@ location_of k at (uncertain i) = interval_of k false (at + 1) i
 -- ---- in brackets
 abbrev pub uncertain_of : Location → Location
 uncertain_of l = record { certain = false; start = l.start; end = l.end }
-
-pub uncertain_is : (k : Kind) (at : ℕ) (i : Ends k) → uncertain_of (interval_of k true at i) ≡ interval_of k false at i
-uncertain_is k at (one p) = refl
-uncertain_is k at (two p q) = refl

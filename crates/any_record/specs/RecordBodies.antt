@@ -7,7 +7,8 @@ use Rattle.record.specs.declared.ProtLocEdit.TheVariants.{Unknown}
 use Rattle.record.specs.declared.Body.{Body}
 use Rattle.record.specs.declared.Body.TheVariants as Bo
 use Rattle.any_location.specs.declared.Location.{Location}
-use Rattle.any_location.specs.ToRecord.{location_for, any_location_lem}
+use Rattle.any_location.specs.ToRecord.{location_for}
+use Rattle.any_location.proofs.ToRecord.{any_location_lem}
 use Rattle.any_body.specs.declared.AnyBody.{AnyBody}
 use Rattle.any_body.specs.declared.AnyBody.TheVariants.{Nucleotide, Protein}
 use Rattle.any_body.specs.AnyBodies.{any_body}

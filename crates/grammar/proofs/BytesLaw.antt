@@ -12,7 +12,7 @@ use Rattle.alphabet.specs.Apart.{is_ascii}
 use Rattle.alphabet.proofs.Apart.{among_every, none_among, nucleotide_letter, alphanumeric_ascii}
 use Rattle.residue.specs.Residues.{is_residues}
 use Rattle.residue_rows.specs.Rows.{rows}
-use Rattle.residue.specs.ResiduesRead.{residue_passes, residues_pass}
+use Rattle.residue.proofs.ResiduesRead.{residue_passes, residues_pass}
 use Rattle.record.specs.declared.Kind.{Kind}
 use Rattle.record.specs.declared.Kind.TheVariants.{Cds, Genome, Mt, Tx, Prot, Rna}
 use Rattle.grammar.specs.Optional.{print_optional, WfOptional}

@@ -12,7 +12,7 @@ use Rattle.texts.specs.Words.{starts}
 use Rattle.texts.proofs.Words.{starts_other}
 use Rattle.alphabet.specs.Letters.{among, digit, residue}
 use Rattle.alphabet.proofs.Apart.{none_among}
-use Rattle.residue.specs.ResiduesRead.{residue_first, residue_some}
+use Rattle.residue.proofs.ResiduesRead.{residue_first, residue_some}
 use Rattle.record.specs.declared.Kind.{Kind}
 use Rattle.record.specs.declared.Kind.TheVariants.{Cds, Genome, Mt, Tx, Prot, Rna}
 use Rattle.grammar.specs.Positions.{Mark.bare, Mark.plus, Mark.minus, Mark.star, Based, Based.based, Genomic, Genomic.known, Genomic.unknown, Residual, Residual.residual, PositionTree, print_offset, print_based, print_genomic, print_residual, print_position, WfBased, WfGenomic, WfResidual, WfPosition}

@@ -14,7 +14,7 @@ use Rattle.texts.proofs.Words.{starts_append, starts_split, starts_other}
 use Rattle.alphabet.specs.Letters.{digit}
 use Rattle.residue.specs.Residues.{is_residue}
 use Rattle.residue.specs.Reading.{residue_len}
-use Rattle.residue.specs.ResiduesRead.{residue_complete, residue_sound, residue_some, continues_digits}
+use Rattle.residue.proofs.ResiduesRead.{residue_complete, residue_sound, residue_some, continues_digits}
 use Rattle.record.specs.declared.Kind.{Kind}
 use Rattle.record.specs.declared.Kind.TheVariants.{Cds, Genome, Mt, Tx, Prot, Rna}
 use Rattle.grammar.specs.Positions.{Mark, Mark.bare, Mark.plus, Mark.minus, Mark.star, OffsetTree, OffsetTree.absent, OffsetTree.ahead, OffsetTree.back, Based, Based.based, Genomic, Genomic.known, Genomic.unknown, Residual, Residual.residual, PositionTree, print_mark, print_offset, print_based, print_genomic, print_residual, print_position, Digits, WfOffset, WfBased, WfUnstarred, WfGenomic, WfResidual, WfPosition}

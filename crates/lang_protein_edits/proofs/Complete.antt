@@ -14,7 +14,7 @@ use Rattle.alphabet.specs.Letters.{digit, residue}
 use Rattle.residue_rows.specs.Rows.{rows}
 use Rattle.residue.specs.Residues.{one_of, is_three, is_one, is_residue, is_residues}
 use Rattle.residue.specs.Reading.{residue_len, continues}
-use Rattle.residue.specs.ResiduesRead.{residue_complete, residue_some, residue_first, residue_stop, residues_complete, residues_some, words_behind, continues_digits, continues_first}
+use Rattle.residue.proofs.ResiduesRead.{residue_complete, residue_some, residue_first, residue_stop, residues_complete, residues_some, words_behind, continues_digits, continues_first}
 use Rattle.grammar.specs.Optional.{print_optional, WfOptional}
 use Rattle.grammar.specs.ProteinEdits.{Residue, Terminal, Terminal.ter, Terminal.x, Terminal.star, Length, Length.counted, Length.unknown, Length.unsaid, Stop, Stop.stop, ExtEnd, ExtEnd.nothing, ExtEnd.later, ExtEnd.earlier, ProteinEditTree, ProteinEditTree.subst, ProteinEditTree.subst_unknown, ProteinEditTree.equal, ProteinEditTree.del, ProteinEditTree.dup, ProteinEditTree.ins, ProteinEditTree.del_ins, ProteinEditTree.fs, ProteinEditTree.ext, print_terminal, print_length, print_stop, print_fs_end, print_ext_end, print_protein_edit, WfLength, WfStop, WfFsEnd, WfExtEnd, WfProteinEdit}
 use Rattle.lang_protein_edits.specs.Parse.{bytes_of, terminal_at, length_at, stop_at, earlier_with, earlier_at, ext_end_at, residues_behind, inserted_at, worded_at, parse_with, parse}

@@ -12,7 +12,7 @@ use Rattle.texts.proofs.Words.{starts_with, starts_none}
 use Rattle.alphabet.specs.Letters.{among, residue}
 use Rattle.alphabet.proofs.Apart.{among_every, among_none}
 use Rattle.residue.specs.Residues.{is_residue}
-use Rattle.residue.specs.ResiduesRead.{residue_first, residue_some}
+use Rattle.residue.proofs.ResiduesRead.{residue_first, residue_some}
 use Rattle.grammar.specs.Shapes.{Mu, Mu.certain, Mu.uncertain, print_mu, WfMu}
 use Rattle.grammar.specs.ProteinEdits.{ProteinEditTree, ProteinEditTree.subst, ProteinEditTree.subst_unknown, ProteinEditTree.equal, ProteinEditTree.del, ProteinEditTree.dup, ProteinEditTree.ins, ProteinEditTree.del_ins, ProteinEditTree.fs, ProteinEditTree.ext, print_fs_end, print_ext_end, print_protein_edit, WfProteinEdit}
 use Rattle.lang_protein_edits.specs.First.{firsts, Head}

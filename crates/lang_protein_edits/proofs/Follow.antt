@@ -10,7 +10,7 @@ use Rattle.texts.proofs.Words.{starts_none}
 use Rattle.alphabet.specs.Letters.{among, digit, residue}
 use Rattle.alphabet.proofs.Apart.{among_every}
 use Rattle.residue.specs.Reading.{continues}
-use Rattle.residue.specs.ResiduesRead.{continues_nil, continues_first}
+use Rattle.residue.proofs.ResiduesRead.{continues_nil, continues_first}
 use Rattle.lang_protein_edits.specs.Follow.{goes_on, Follows}
 
 pub follows_nil : Follows []

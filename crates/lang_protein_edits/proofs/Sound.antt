@@ -12,7 +12,7 @@ use Rattle.texts.proofs.Words.{starts_split}
 use Rattle.alphabet.specs.Letters.{digit}
 use Rattle.residue.specs.Residues.{is_residues}
 use Rattle.residue.specs.Reading.{residue_len, residues_len}
-use Rattle.residue.specs.ResiduesRead.{residue_sound, residues_sound}
+use Rattle.residue.proofs.ResiduesRead.{residue_sound, residues_sound}
 use Rattle.grammar.specs.Optional.{print_optional, WfOptional}
 use Rattle.grammar.specs.ProteinEdits.{Residue, Terminal, Terminal.ter, Terminal.x, Terminal.star, Stop, ExtEnd, ExtEnd.earlier, ProteinEditTree, ProteinEditTree.subst, ProteinEditTree.subst_unknown, ProteinEditTree.equal, ProteinEditTree.del, ProteinEditTree.dup, ProteinEditTree.ins, ProteinEditTree.del_ins, ProteinEditTree.fs, ProteinEditTree.ext, print_terminal, print_length, print_stop, print_fs_end, print_ext_end, print_protein_edit, WfLength, WfStop, WfFsEnd, WfExtEnd, WfProteinEdit}
 use Rattle.lang.specs.Lang.{Front}

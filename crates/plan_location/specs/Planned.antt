@@ -39,7 +39,8 @@ use Rattle.lang_locations.proofs.Canonical.{location_canon}
 use Rattle.any_location.specs.declared.Position.{Position}
 use Rattle.any_location.specs.declared.Location.{Location}
 use Rattle.any_location.specs.OfRecord.{any_location}
-use Rattle.any_location.specs.ToRecord.{position_for, mu_for, location_for, any_location_lem}
+use Rattle.any_location.specs.ToRecord.{position_for, mu_for, location_for}
+use Rattle.any_location.proofs.ToRecord.{any_location_lem}
 use Rattle.any_location_same.specs.Same.{same_position}
 use Rattle.emit_piece.specs.Texts.{byte_text, amount_text, no_span}
 use Rattle.emit_location.specs.Texts.{position_text, location_text, no_end}

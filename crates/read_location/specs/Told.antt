@@ -11,7 +11,8 @@ use Rattle.read_scan.specs.MuAccounts.{Bracketed}
 use Rattle.lang_locations.specs.Settled.{settled_ends}
 use Rattle.lang_locations.proofs.Languages.{ends_lang, location_lang}
 use Rattle.any_location.specs.declared.Location.{Location}
-use Rattle.any_location.specs.OfTree.{interval_of, location_of, uncertain_of, uncertain_is}
+use Rattle.any_location.specs.OfTree.{interval_of, location_of, uncertain_of}
+use Rattle.any_location.proofs.OfTree.{uncertain_is}
 use Rattle.read_location.specs.declared.LocationRead.TheVariants.{Nothing, Found}
 use Rattle.read_location.specs.LocationAnswers.{intervals, interval_answer, locations, location_answer}
 

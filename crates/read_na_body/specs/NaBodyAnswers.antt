@@ -11,7 +11,7 @@ use Rattle.grammar.specs.Numbers.{na_body_numbers, body_numbers}
 use Rattle.read_scan.specs.Faults.{faults}
 use Rattle.lang_bodies.specs.Settled.{settled_na_body, settled_body}
 use Rattle.any_location.specs.OfTree.{location_of}
-use Rattle.any_location.specs.OfRecord.{location_any}
+use Rattle.any_location.proofs.OfRecord.{location_any}
 use Rattle.any_body.specs.declared.AnyBody.{AnyBody}
 use Rattle.any_body.specs.declared.AnyBody.TheVariants.{Nucleotide}
 use Rattle.any_body.specs.AnyBodies.{any_body}

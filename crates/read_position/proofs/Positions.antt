@@ -21,7 +21,7 @@ use Rattle.numerals.specs.declared.Sign.TheVariants.{Unsigned}
 use Rattle.numerals.specs.declared.Number.{Number}
 use Rattle.numerals.specs.Reading.{number_at}
 use Rattle.residue.specs.Reading.{residue_len}
-use Rattle.residue.specs.ResiduesRead.{residue_le}
+use Rattle.residue.proofs.ResiduesRead.{residue_le}
 use Rattle.record.specs.declared.Span.{Span}
 use Rattle.record.specs.declared.Kind.{Kind}
 use Rattle.record.specs.declared.Kind.TheVariants.{Cds, Genome, Prot}

@@ -35,7 +35,8 @@ use Rattle.any_location.specs.declared.Location.{Location}
 use Rattle.read_location.specs.declared.LocationRead.TheVariants as LR
 use Rattle.any_location.specs.OfTree.{uncertain_of}
 use Rattle.read_location.specs.LocationAnswers.{interval_answer}
-use Rattle.any_location.specs.ToRecord.{location_for, location_for_lem, uncertain_for}
+use Rattle.any_location.specs.ToRecord.{location_for}
+use Rattle.any_location.proofs.ToRecord.{location_for_lem, uncertain_for}
 use Rattle.read_location.specs.Told.{IntervalTold, interval_unread, interval_within}
 use Rattle.read_protein_ends.specs.declared.ProteinEditRead.TheVariants as PR
 use Rattle.read_protein_edit.specs.declared.MuProteinEditRead.TheVariants as MR

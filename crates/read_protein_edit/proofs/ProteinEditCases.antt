@@ -13,7 +13,7 @@ use Rattle.texts.proofs.Slices.{tail_part, tail_room}
 use Rattle.texts.specs.Words.{starts}
 use Rattle.texts.proofs.Words.{starts_length}
 use Rattle.residue.specs.Reading.{residue_len, residues_len}
-use Rattle.residue.specs.ResiduesRead.{residue_le, residues_le}
+use Rattle.residue.proofs.ResiduesRead.{residue_le, residues_le}
 use Rattle.record.specs.declared.Span.{Span}
 use Rattle.record.specs.declared.ProteinEdit as D
 use Rattle.record.specs.declared.ProteinEdit.TheVariants.{Subst, DelIns, Ins, Del, Dup, Ident}

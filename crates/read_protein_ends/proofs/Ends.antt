@@ -22,7 +22,7 @@ use Rattle.numerals.specs.Reading.{number_at}
 use Rattle.numerals.specs.declared.Number.{Number}
 use Rattle.numerals.specs.declared.Sign.TheVariants.{Unsigned, Negated}
 use Rattle.residue.specs.Reading.{residue_len}
-use Rattle.residue.specs.ResiduesRead.{residue_le}
+use Rattle.residue.proofs.ResiduesRead.{residue_le}
 use Rattle.record.specs.declared.Span.{Span}
 use Rattle.record.specs.declared.Part.{Part}
 use Rattle.record.specs.declared.Part.TheVariants.{Absent, Present}

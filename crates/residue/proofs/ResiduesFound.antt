@@ -20,7 +20,7 @@ use Rattle.residue_rows.specs.declared.RowFound.{RowFound}
 use Rattle.residue_rows.specs.declared.RowFound.TheVariants.{Row, Nothing}
 use Rattle.residue.specs.Residues.{one_of, is_three, is_one}
 use Rattle.residue.specs.Reading.{residue_len, threes_len, residues_len}
-use Rattle.residue.specs.ResiduesRead.{three_length, taken_le, some_threes, no_threes}
+use Rattle.residue.proofs.ResiduesRead.{three_length, taken_le, some_threes, no_threes}
 
 -- ---- a row is found exactly where three letters stand at the front
 abbrev pub found : RowFound → Bool

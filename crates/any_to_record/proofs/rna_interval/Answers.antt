@@ -1,5 +1,5 @@
 use Rattle.record.specs.declared.Kind.TheVariants.{Rna}
-use Rattle.any_location.specs.ToRecord.{certain_for, bracketed_for}
+use Rattle.any_location.proofs.ToRecord.{certain_for, bracketed_for}
 use Rattle.any_to_record.proofs.rna_interval.Goals as goal
 
 pub returns-then-l : goal.returns-then-l

@@ -1,7 +1,7 @@
 -- The whole text is a residue exactly where the residue at its front is the whole.
 use Rattle.residue.specs.Residues.{is_residue}
 use Rattle.residue.specs.Reading.{residue_len}
-use Rattle.residue.specs.ResiduesRead.{residue_some, residue_whole, residue_sound}
+use Rattle.residue.proofs.ResiduesRead.{residue_some, residue_whole, residue_sound}
 use Rattle.residue.proofs.ResiduesFound.{whole_empty, whole}
 use Rattle.residue.proofs.is_residue.Goals as goal
 

@@ -1,7 +1,7 @@
 -- The whole text is residues exactly where the residues at its front are the whole.
 use Rattle.residue.specs.Residues.{is_residues}
 use Rattle.residue.specs.Reading.{residues_len}
-use Rattle.residue.specs.ResiduesRead.{residues_some, residues_whole, residues_sound}
+use Rattle.residue.proofs.ResiduesRead.{residues_some, residues_whole, residues_sound}
 use Rattle.residue.proofs.ResiduesFound.{whole_empty, whole}
 use Rattle.residue.proofs.is_residues.Goals as goal
 

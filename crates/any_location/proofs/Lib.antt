@@ -1,0 +1,3 @@
+pub mod OfTree
+pub mod OfRecord
+pub mod ToRecord
