@@ -1,4 +1,0 @@
-use Rattle.saltwhistle_c.proofs.saltwhistle_noref.Goals as goal
-
-pub returns : goal.returns
-returns c = c.noref.ensures
