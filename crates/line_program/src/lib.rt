@@ -3,7 +3,7 @@
 // functions whose contracts say all of it (`line_turns`), and `act` makes the calls.
 #![tactic(auto)]
 
-ghost use Rattle.std.specs.Prelude.{◌≤◌, length};
+ghost use Rattle.std.specs.Prelude.{◌≡◌, ◌≤◌, pos, negsuc, length, MatchResult};
 ghost use Rattle.std.specs.Io.{ReadsAtMost};
 ghost use Rattle.line_runs.specs.After.{Ready, Acted};
 ghost use Rattle.line_runs.specs.Runs.{Ran, RanFromZeros};
@@ -15,6 +15,7 @@ use std::io::{Read, Write};
 // What a read into the room has given, as one number: below zero where it has failed.
 fn got(read: io::Result<usize>, input: &[u8]) -> isize
     requires { ReadsAtMost read input.now }
+    ensures { MatchResult read (λ n. result ≡ pos n) (λ _. result ≡ negsuc 0) }
 {
     match read {
         Ok(n) => n as isize,
