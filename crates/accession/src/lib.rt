@@ -9,7 +9,5 @@ use record::HgvsVariant;
 pub fn accession(source: &[u8], v: HgvsVariant) -> &[u8]
     ensures { IsAccession source.entry v result }
 {
-    let header = v.header;
-    let span = header.accession;
-    parts::part_of(source, span)
+    parts::part_of(source, v.header.accession)
 }

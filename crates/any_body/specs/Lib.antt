@@ -1,1 +1,2 @@
 pub mod AnyBodies
+pub mod RecordBodies

@@ -3,8 +3,6 @@ use Rattle.std.specs.Prelude.{ℕ, ◌+◌, ◌≡◌, refl, Bool, true, false, 
 use Rattle.std.proofs.Common.{◌∙◌}
 use Rattle.record.specs.declared.Kind.{Kind}
 use Rattle.record.specs.declared.Kind.TheVariants.{Cds, Genome, Mt, Tx, Prot, Rna}
-use Rattle.record.specs.declared.GenomePos.TheVariants as G
-use Rattle.record.specs.declared.MtPos.TheVariants as M
 use Rattle.record.specs.declared.MuCdsInterval.TheVariants as MuCds
 use Rattle.record.specs.declared.MuGenomeInterval.TheVariants as MuGenome
 use Rattle.record.specs.declared.MuMtInterval.TheVariants as MuMt

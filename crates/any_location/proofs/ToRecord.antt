@@ -1,9 +1,7 @@
 -- The declared record of each kind, from a position and from a location of any kind. Of a tree it is the tree's record, of a record the record.
-use Rattle.std.specs.Prelude.{ℕ, ◌+◌, ◌≡◌, refl, Bool, true, false, cond, length}
+use Rattle.std.specs.Prelude.{ℕ, ◌+◌, ◌≡◌, refl, Bool, true, false, cond, length, None, Some}
 use Rattle.record.specs.declared.Kind.{Kind}
 use Rattle.record.specs.declared.Kind.TheVariants.{Cds, Genome, Mt, Tx, Prot, Rna}
-use Rattle.record.specs.declared.GenomePos.TheVariants as G
-use Rattle.record.specs.declared.MtPos.TheVariants as M
 use Rattle.record.specs.declared.MuCdsInterval.TheVariants as MuCds
 use Rattle.record.specs.declared.MuGenomeInterval.TheVariants as MuGenome
 use Rattle.record.specs.declared.MuMtInterval.TheVariants as MuMt
@@ -58,10 +56,10 @@ uncertain_for k at (two p q) = interval_for k false at (two p q)
 -- ---- of a record
 any_position_lem : (k : Kind) (p : PositionR k) → position_for k (any_position k p) ≡ p
 any_position_lem Cds p = refl
-any_position_lem Genome G.Unknown = refl
-any_position_lem Genome (G.At z) = refl
-any_position_lem Mt M.Unknown = refl
-any_position_lem Mt (M.At z) = refl
+any_position_lem Genome None = refl
+any_position_lem Genome (Some z) = refl
+any_position_lem Mt None = refl
+any_position_lem Mt (Some z) = refl
 any_position_lem Tx p = refl
 any_position_lem Prot p = refl
 any_position_lem Rna p = refl

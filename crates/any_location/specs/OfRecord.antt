@@ -1,10 +1,8 @@
 -- A position and a location of a record, as those of any kind. Of a tree's record it is what the tree means.
-use Rattle.std.specs.Prelude.{Bool, true, false}
+use Rattle.std.specs.Prelude.{Bool, true, false, None, Some}
 use Rattle.record.specs.declared.Kind.{Kind}
 use Rattle.record.specs.declared.Kind.TheVariants.{Cds, Genome, Mt, Tx, Prot, Rna}
 use Rattle.record.specs.declared.CdsFrom.TheVariants.{Start}
-use Rattle.record.specs.declared.GenomePos.TheVariants as G
-use Rattle.record.specs.declared.MtPos.TheVariants as M
 use Rattle.record.specs.declared.MuCdsInterval.TheVariants as MuCds
 use Rattle.record.specs.declared.MuGenomeInterval.TheVariants as MuGenome
 use Rattle.record.specs.declared.MuMtInterval.TheVariants as MuMt
@@ -21,10 +19,10 @@ use Rattle.any_location.specs.OfTree.{with_base, unmarked_of, known_at, not_know
 
 abbrev pub any_position : (k : Kind) → PositionR k → Position
 any_position Cds p = with_base p.base p.cds_from p.offset
-any_position Genome G.Unknown = not_known
-any_position Genome (G.At z) = known_at z
-any_position Mt M.Unknown = not_known
-any_position Mt (M.At z) = known_at z
+any_position Genome None = not_known
+any_position Genome (Some z) = known_at z
+any_position Mt None = not_known
+any_position Mt (Some z) = known_at z
 any_position Tx p = with_base p.base Start p.offset
 any_position Prot p = unmarked_of p.aa p.number false
 any_position Rna p = with_base p.base Start p.offset

@@ -1,13 +1,12 @@
 -- The position and the location of any kind that a tree means, its spans where it stands in a text.
-use Rattle.std.specs.Prelude.{ℕ, ◌+◌, Bool, true, false, ℤ, pos, length}
+use Rattle.std.specs.Prelude.{ℕ, ◌+◌, Bool, true, false, ℤ, pos, length, None}
 use Rattle.numerals.specs.declared.Sign.TheVariants.{Unsigned}
 use Rattle.record.specs.declared.Span.{Span}
 use Rattle.record.specs.declared.Kind.{Kind}
 use Rattle.record.specs.declared.Kind.TheVariants.{Cds, Genome, Mt, Tx, Prot, Rna}
 use Rattle.record.specs.declared.CdsFrom.{CdsFrom}
 use Rattle.record.specs.declared.CdsFrom.TheVariants.{Start}
-use Rattle.record.specs.declared.Offset.{Offset}
-use Rattle.record.specs.declared.Offset.TheVariants.{Absent}
+use Rattle.record.specs.Named.{Offset}
 use Rattle.grammar.specs.Positions as G
 use Rattle.grammar.specs.Positions.{Based, Based.based, Genomic, Genomic.known, Genomic.unknown, Residual, Residual.residual, print_position}
 use Rattle.grammar.specs.Shapes.{Interval.one, Interval.two, Mu.certain, Mu.uncertain}
@@ -23,7 +22,7 @@ abbrev pub with_base : ℤ → CdsFrom → Offset → Position
 with_base n from o = record { aa = span 0 0; number = n; unknown = false; cds_from = from; offset = o }
 
 abbrev pub unmarked_of : Span → ℤ → Bool → Position
-unmarked_of aa n is_unknown = record { aa = aa; number = n; unknown = is_unknown; cds_from = Start; offset = Absent }
+unmarked_of aa n is_unknown = record { aa = aa; number = n; unknown = is_unknown; cds_from = Start; offset = None }
 
 abbrev pub known_at : ℤ → Position
 known_at n = unmarked_of (span 0 0) n false

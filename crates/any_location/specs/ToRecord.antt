@@ -1,9 +1,7 @@
 -- The declared record of each kind, from a position and from a location of any kind. Of a tree it is the tree's record, of a record the record.
-use Rattle.std.specs.Prelude.{Bool, true, false, cond}
+use Rattle.std.specs.Prelude.{Bool, true, false, cond, None, Some}
 use Rattle.record.specs.declared.Kind.{Kind}
 use Rattle.record.specs.declared.Kind.TheVariants.{Cds, Genome, Mt, Tx, Prot, Rna}
-use Rattle.record.specs.declared.GenomePos.TheVariants as G
-use Rattle.record.specs.declared.MtPos.TheVariants as M
 use Rattle.record.specs.declared.MuCdsInterval.TheVariants as MuCds
 use Rattle.record.specs.declared.MuGenomeInterval.TheVariants as MuGenome
 use Rattle.record.specs.declared.MuMtInterval.TheVariants as MuMt
@@ -20,8 +18,8 @@ use Rattle.any_location.specs.declared.Location.{Location}
 
 abbrev pub position_for : (k : Kind) → Position → PositionR k
 position_for Cds p = record { base = p.number; offset = p.offset; cds_from = p.cds_from }
-position_for Genome p = cond p.unknown G.Unknown (G.At p.number)
-position_for Mt p = cond p.unknown M.Unknown (M.At p.number)
+position_for Genome p = cond p.unknown None (Some p.number)
+position_for Mt p = cond p.unknown None (Some p.number)
 position_for Tx p = record { base = p.number; offset = p.offset }
 position_for Prot p = record { aa = p.aa; number = p.number }
 position_for Rna p = record { base = p.number; offset = p.offset }

@@ -6,7 +6,11 @@ ghost use Rattle.any_location.specs.OfTree.{unmarked_of, uncertain_of};
 
 use record::{CdsFrom, Offset, Span};
 
+mod of_record; // of_record.rt: from a record's
+mod to_record; // to_record.rt: to a record's
+
 // A position of any kind. Where a kind has no residue, none unknown, no anchor or no offset, 0..0, false, the start or no offset stands.
+// A number beside `unknown` and no option, since five of six kinds always have one.
 #[derive(Clone, Copy)]
 pub struct Position {
     pub aa: Span,
@@ -33,7 +37,7 @@ pub fn unmarked(aa: Span, number: i32, unknown: bool) -> Position
         number,
         unknown,
         cds_from: CdsFrom::Start,
-        offset: Offset::Absent,
+        offset: None,
     }
 }
 
@@ -41,11 +45,8 @@ pub fn unmarked(aa: Span, number: i32, unknown: bool) -> Position
 pub fn uncertain(l: Location) -> Location
     ensures { result ≡ uncertain_of l }
 {
-    let start = l.start;
-    let end = l.end;
     Location {
         certain: false,
-        start,
-        end,
+        ..l
     }
 }

@@ -1,7 +1,7 @@
 // For each line of what a reader gives the answer to reading it, on a line of what a writer takes; where columns are wanted, a record has them behind it.
 #![tactic(auto)]
 
-ghost use Rattle.std.specs.Prelude.{◌≤◌, length};
+ghost use Rattle.std.specs.Prelude.{◌≤◌, length, IfSome};
 
 use lines::{Line, Progress};
 use record::{ReadAnswer, Refusal};
@@ -11,7 +11,7 @@ pub mod columns; // columns.rt: what stands behind a record
 
 fn read(text: &[u8], long: bool) -> ReadAnswer {
     if long {
-        return ReadAnswer::Refused(Refusal::TooLong);
+        return Err(Refusal::TooLong);
     }
     reader::read(text)
 }
@@ -22,12 +22,10 @@ fn answer(text: &[u8], long: bool, out: &mut [u8], with_columns: bool) -> usize
 {
     let r = read(text, long);
     let behind = compare_record::put_answer(text, out, r);
-    if with_columns {
-        if let ReadAnswer::Accepted(v) = r {
-            return columns::put_columns(text, out, behind, v);
-        }
+    match r {
+        Ok(v) if with_columns => columns::put_columns(text, out, behind, v),
+        _ => behind,
     }
-    behind
 }
 
 // The answer to a line, and LF.
@@ -35,9 +33,7 @@ fn answer_line(buffer: &[u8], line: Line, out: &mut [u8], with_columns: bool) ->
     requires { line.len ≤ length buffer.now }
     ensures { result ≤ length out.old }
 {
-    let len = line.len;
-    let text = &buffer[..len];
-    let behind = answer(text, line.long, out, with_columns);
+    let behind = answer(&buffer[..line.len], line.long, out, with_columns);
     compare_room::byte(out, behind, b'\n')
 }
 
@@ -47,30 +43,21 @@ fn turn(piece: &[u8], buffer: &mut [u8], line: Line, out: &mut [u8], with_column
     ensures { (result.used ≤ length piece.now) × (1 ≤ length piece.now → 1 ≤ result.used) × (result.line.len ≤ length buffer.old) × (result.at ≤ length out.old) }
 {
     let t = line_take::take(piece, buffer, line);
-    let next = t.line;
     if !t.complete {
         return Progress {
             used: t.used,
-            line: next,
+            line: t.line,
             at: 0,
         };
     }
-    let behind = answer_line(buffer, next, out, with_columns);
     Progress {
         used: t.used,
         line: line_take::no_line(),
-        at: behind,
+        at: answer_line(buffer, t.line, out, with_columns),
     }
 }
 
-// Whether to go on, and the line so far.
-#[derive(Clone, Copy)]
-struct Gone {
-    going: bool,
-    line: Line,
-}
-
-// All of the piece; it goes on while what is made can be written.
+// All of the piece, and the line so far; none where an answer cannot be written.
 fn over<W: Write>(
     to: &mut W,
     piece: &[u8],
@@ -78,29 +65,19 @@ fn over<W: Write>(
     line: Line,
     out: &mut [u8],
     with_columns: bool,
-) -> Gone
+) -> Option<Line>
     requires { line.len ≤ length buffer.old }
-    ensures { result.line.len ≤ length buffer.old }
+    ensures { IfSome result (λ l. l.len ≤ length buffer.old) }
 {
-    let mut i: usize = 0;
-    let mut state = line;
-    while i < piece.len() {
-        let t = turn(&piece[i..], buffer, state, out, with_columns);
-        let at = t.at;
-        let next = t.line;
-        if to.write_all(&out[..at]).is_err() {
-            return Gone {
-                going: false,
-                line: next,
-            };
-        }
-        i += t.used;
-        state = next;
+    let mut rest = piece;
+    let mut line = line;
+    while !rest.is_empty() {
+        let t = turn(rest, buffer, line, out, with_columns);
+        to.write_all(&out[..t.at]).ok()?;
+        rest = &rest[t.used..];
+        line = t.line;
     }
-    Gone {
-        going: true,
-        line: state,
-    }
+    Some(line)
 }
 
 // The last line, where it has a byte and no LF.
@@ -113,7 +90,7 @@ fn finish<W: Write>(to: &mut W, buffer: &[u8], line: Line, out: &mut [u8], with_
     }
 }
 
-// Reads once, and answers what came.
+// Reads once, and answers what came: the line so far, or none where it is not to go on.
 fn once<R: Read, W: Write>(
     from: &mut R,
     to: &mut W,
@@ -122,18 +99,16 @@ fn once<R: Read, W: Write>(
     line: Line,
     out: &mut [u8],
     with_columns: bool,
-) -> Gone
+) -> Option<Line>
     requires { line.len ≤ length buffer.old }
-    ensures { result.line.len ≤ length buffer.old }
+    ensures { IfSome result (λ l. l.len ≤ length buffer.old) }
 {
-    match from.read(input) {
-        Err(_) => Gone { going: false, line },
-        Ok(0) => {
-            finish(to, buffer, line, out, with_columns);
-            Gone { going: false, line }
-        }
-        Ok(n) => over(to, &input[..n], buffer, line, out, with_columns),
+    let n = from.read(input).ok()?;
+    if n == 0 {
+        finish(to, buffer, line, out, with_columns);
+        return None;
     }
+    over(to, &input[..n], buffer, line, out, with_columns)
 }
 
 fn every<R: Read, W: Write>(
@@ -145,15 +120,11 @@ fn every<R: Read, W: Write>(
     with_columns: bool,
 ) {
     let mut line = line_take::no_line();
-    let mut turns = u64::MAX;
-    while turns > 0 {
-        let o = once(from, to, input, buffer, line, out, with_columns);
-        if !o.going {
+    for _ in 0..u64::MAX {
+        let Some(next) = once(from, to, input, buffer, line, out, with_columns) else {
             return;
-        }
-        let next = o.line;
+        };
         line = next;
-        turns -= 1;
     }
 }
 

@@ -5,11 +5,10 @@ ghost use Rattle.std.specs.Prelude.{◌≤◌, length};
 
 use any_body::AnyBody;
 use any_location::Location;
-use fields::Fields;
+use fields::{Fields, NOTHING};
 use numbered::Answer;
-use record::{Header, Kind, ProtLocEdit, ReadAnswer};
+use record::{Header, Kind, ProtLocEdit, ReadAnswer, Refusal};
 
-mod forms; // forms.rt: the forms of what is shown
 mod fields; // fields.rt: forms with what stands in them
 mod locations; // locations.rt: the ends of a location
 mod edits; // edits.rt: nucleotide and protein edits
@@ -23,72 +22,61 @@ struct Shown {
     edit: Fields,
 }
 
-// A header and a word, or a refusal.
-fn short(header: Fields, word: usize) -> Shown {
+// A header or a refusal, and a word.
+fn short(header: Fields, word: &'static [u8]) -> Shown {
     Shown {
         header,
-        start: fields::of_word(forms::NONE, forms::NONE),
-        end: fields::of_word(forms::NONE, forms::NONE),
-        edit: fields::of_word(forms::NONE, word),
+        start: NOTHING,
+        end: NOTHING,
+        edit: Fields {
+            form: word,
+            ..NOTHING
+        },
     }
-}
-
-fn certainty(certain: bool) -> usize {
-    if certain {
-        return forms::CERTAIN_LOCATION;
-    }
-    forms::UNCERTAIN_LOCATION
 }
 
 fn located(header: Fields, kind: Kind, l: Location, edit: Fields) -> Shown {
-    let start = l.start;
-    let end = l.end;
+    let opening = if l.certain { b"C[" } else { b"U[" };
     Shown {
         header,
-        start: locations::of_position(certainty(l.certain), kind, start),
-        end: locations::of_position(forms::BETWEEN_ENDS, kind, end),
+        start: locations::of_position(opening, kind, l.start),
+        end: locations::of_position(b",", kind, l.end),
         edit,
     }
 }
 
-fn letter(kind: Kind) -> usize {
+fn letter(kind: Kind) -> &'static [u8] {
     match kind {
-        Kind::Cds => forms::CDS,
-        Kind::Genome => forms::GENOME,
-        Kind::Mt => forms::MT,
-        Kind::Tx => forms::TX,
-        Kind::Prot => forms::PROT,
-        Kind::Rna => forms::RNA,
+        Kind::Cds => b"c",
+        Kind::Genome => b"g",
+        Kind::Mt => b"m",
+        Kind::Tx => b"n",
+        Kind::Prot => b"p",
+        Kind::Rna => b"r",
     }
 }
 
 // Kind, accession and gene symbol, and a blank behind each.
 fn of_header(kind: Kind, h: Header) -> Fields {
-    let accession = h.accession;
-    let gene = h.gene_symbol;
-    fields::of_parts(
-        letter(kind),
-        forms::HEADER,
-        accession,
-        fields::optional(gene),
-    )
+    Fields {
+        lead: letter(kind),
+        form: b" 1 2 ",
+        first: Some(h.accession),
+        second: h.gene_symbol,
+        ..NOTHING
+    }
 }
 
 // An ordinary body, or a word.
 fn of_protein(header: Fields, x: ProtLocEdit) -> Shown {
     match x {
-        ProtLocEdit::Ordinary(l, e) => located(
-            header,
-            Kind::Prot,
-            any_of_record::of_prot(l),
-            edits::of_protein(e),
-        ),
-        ProtLocEdit::NoChange => short(header, forms::NO_CHANGE),
-        ProtLocEdit::NoChangeUncertain => short(header, forms::NO_CHANGE_UNCERTAIN),
-        ProtLocEdit::NoProtein => short(header, forms::NO_PROTEIN),
-        ProtLocEdit::NoProteinUncertain => short(header, forms::NO_PROTEIN_UNCERTAIN),
-        ProtLocEdit::Unknown => short(header, forms::UNKNOWN),
-        ProtLocEdit::InitiationUncertain => short(header, forms::INITIATION_UNCERTAIN),
+        ProtLocEdit::Ordinary(l, e) => located(header, Kind::Prot, l.into(), edits::of_protein(e)),
+        ProtLocEdit::NoChange => short(header, b"NoChange"),
+        ProtLocEdit::NoChangeUncertain => short(header, b"NoChangeUncertain"),
+        ProtLocEdit::NoProtein => short(header, b"NoProtein"),
+        ProtLocEdit::NoProteinUncertain => short(header, b"NoProteinUncertain"),
+        ProtLocEdit::Unknown => short(header, b"Unknown"),
+        ProtLocEdit::InitiationUncertain => short(header, b"InitiationUncertain"),
     }
 }
 
@@ -101,52 +89,36 @@ fn of_variant(h: Header, b: AnyBody) -> Shown {
 
 // Numbers and places are small.
 fn small(n: u64) -> i32 {
-    if n <= 4096 {
-        return n as i32;
-    }
-    4096
+    n.min(4096) as i32
 }
 
-fn of_refusal(a: Answer) -> Shown {
+fn of_refusal(why: Refusal) -> Shown {
+    let a = Answer::from(why);
     short(
-        fields::of_numbers(
-            forms::NONE,
-            forms::REFUSAL,
-            forms::NONE,
-            small(a.number),
-            small(a.place),
-        ),
-        forms::NONE,
+        Fields {
+            form: b"! # +",
+            number: small(a.number),
+            offset: small(a.place),
+            ..NOTHING
+        },
+        b"",
     )
 }
 
 fn of_answer(r: ReadAnswer) -> Shown {
     match r {
-        ReadAnswer::Accepted(v) => {
-            let h = v.header;
-            let b = v.body;
-            of_variant(h, any_body::any_body(b))
-        }
-        ReadAnswer::Refused(why) => of_refusal(numbered::of_refusal(why)),
+        Ok(v) => of_variant(v.header, v.body.into()),
+        Err(why) => of_refusal(why),
     }
-}
-
-fn put_shown(source: &[u8], out: &mut [u8], s: Shown) -> usize
-    ensures { result ≤ length out.old }
-{
-    let header = s.header;
-    let start = s.start;
-    let end = s.end;
-    let edit = s.edit;
-    let a = fields::put(source, out, 0, header);
-    let b = fields::put(source, out, a, start);
-    let c = fields::put(source, out, b, end);
-    fields::put(source, out, c, edit)
 }
 
 // The answer to reading the source, at the room's front; gives the place behind it.
 pub fn put_answer(source: &[u8], out: &mut [u8], r: ReadAnswer) -> usize
     ensures { result ≤ length out.old }
 {
-    put_shown(source, out, of_answer(r))
+    let shown = of_answer(r);
+    let at = fields::put(source, out, 0, shown.header);
+    let at = fields::put(source, out, at, shown.start);
+    let at = fields::put(source, out, at, shown.end);
+    fields::put(source, out, at, shown.edit)
 }

@@ -1,45 +1,47 @@
 // The ends of a location.
-use crate::fields::Fields;
-use crate::{fields, forms};
+use crate::fields::{Fields, NOTHING};
 use any_location::Position;
-use record::{CdsFrom, Kind, Offset, Span};
+use record::{CdsFrom, Kind};
 
-fn anchored(from: CdsFrom) -> usize {
-    match from {
-        CdsFrom::Start => forms::FROM_START,
-        CdsFrom::End => forms::FROM_END,
+fn based(lead: &'static [u8], form: &'static [u8], p: Position) -> Fields {
+    let shown = Fields {
+        lead,
+        form,
+        number: p.number,
+        ..NOTHING
+    };
+    match p.offset {
+        None => Fields {
+            tail: b"-",
+            ..shown
+        },
+        Some(offset) => Fields {
+            tail: b"+",
+            offset,
+            ..shown
+        },
     }
 }
 
-fn based(lead: usize, form: usize, number: i32, o: Offset) -> Fields {
-    match o {
-        Offset::Absent => fields::of_numbers(lead, form, forms::NO_OFFSET, number, 0),
-        Offset::By(offset) => fields::of_numbers(lead, form, forms::OFFSET, number, offset),
-    }
-}
-
-fn genomic(lead: usize, unknown: bool, number: i32) -> Fields {
-    if unknown {
-        return fields::of_word(lead, forms::QUESTION);
-    }
-    fields::of_number(lead, forms::NUMBER, number)
-}
-
-pub fn of_position(lead: usize, kind: Kind, p: Position) -> Fields {
-    let aa = p.aa;
-    let from = p.cds_from;
-    let o = p.offset;
+pub fn of_position(lead: &'static [u8], kind: Kind, p: Position) -> Fields {
     match kind {
-        Kind::Cds => based(lead, anchored(from), p.number, o),
-        Kind::Genome | Kind::Mt => genomic(lead, p.unknown, p.number),
-        Kind::Prot => fields::of_all(
+        Kind::Cds => match p.cds_from {
+            CdsFrom::Start => based(lead, b"S#:", p),
+            CdsFrom::End => based(lead, b"E#:", p),
+        },
+        Kind::Genome | Kind::Mt => Fields {
             lead,
-            forms::RESIDUE,
-            forms::NONE,
-            aa,
-            fields::NO_PART,
-            p.number,
-        ),
-        Kind::Tx | Kind::Rna => based(lead, forms::BASED, p.number, o),
+            form: if p.unknown { b"?" } else { b"#" },
+            number: p.number,
+            ..NOTHING
+        },
+        Kind::Prot => Fields {
+            lead,
+            form: b"1:#",
+            first: Some(p.aa),
+            number: p.number,
+            ..NOTHING
+        },
+        Kind::Tx | Kind::Rna => based(lead, b"#:", p),
     }
 }

@@ -18,10 +18,8 @@ pub fn byte(out: &mut [u8], at: usize, b: u8) -> usize
 fn text(out: &mut [u8], at: usize, t: &[u8]) -> usize
     ensures { result ≤ length out.old }
 {
-    if at <= out.len() {
-        if t.len() <= out.len() - at {
-            return lent::put_bytes(out, at, t);
-        }
+    if at <= out.len() && t.len() <= out.len() - at {
+        return lent::put_bytes(out, at, t);
     }
     out.len()
 }
@@ -35,10 +33,8 @@ pub fn part(source: &[u8], out: &mut [u8], at: usize, p: Span) -> usize
 fn magnitude(out: &mut [u8], at: usize, v: u32) -> usize
     ensures { result ≤ length out.old }
 {
-    if at <= out.len() {
-        if emit_number::decimal_len(v) <= out.len() - at {
-            return emit_number::put_decimal(out, at, v);
-        }
+    if at <= out.len() && emit_number::decimal_len(v) <= out.len() - at {
+        return emit_number::put_decimal(out, at, v);
     }
     out.len()
 }
@@ -46,21 +42,18 @@ fn magnitude(out: &mut [u8], at: usize, v: u32) -> usize
 pub fn integer(out: &mut [u8], at: usize, v: i32) -> usize
     ensures { result ≤ length out.old }
 {
-    if v < 0 {
-        let k = byte(out, at, b'-');
-        return magnitude(out, k, emit_number::magnitude(v));
-    }
-    magnitude(out, at, emit_number::magnitude(v))
+    let k = if v < 0 { byte(out, at, b'-') } else { at };
+    magnitude(out, k, v.unsigned_abs())
 }
 
 // No number of an answer is over 4,294,967,295; a larger one has no room.
 pub fn decimal(out: &mut [u8], at: usize, n: u64) -> usize
     ensures { result ≤ length out.old }
 {
-    if n <= 4294967295 {
-        return magnitude(out, at, n as u32);
+    match u32::try_from(n) {
+        Ok(v) => magnitude(out, at, v),
+        Err(_) => out.len(),
     }
-    out.len()
 }
 
 // `! ` and the number.

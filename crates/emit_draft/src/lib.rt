@@ -35,80 +35,65 @@ pub struct Draft {
     pub body: BodyPieces,
 }
 
+#[tactic(auto, using(crate::specs::DraftLengths::heading_length, grammar::proofs::Header::kind_length))]
 fn heading_len(source: &[u8], h: Heading) -> usize
     requires { length source.now ≤ 4096 }
     ensures { (result ≡ length (heading_text source.now h)) × (result ≤ 2 * 4096 + 5) }
 {
-    let accession = h.accession;
-    let opening = h.opening;
-    let gene = h.gene;
-    let closing = h.closing;
-    emit_piece::part_len(source, accession)
-        + emit_piece::byte_len(opening)
-        + emit_piece::part_len(source, gene)
-        + emit_piece::byte_len(closing)
+    emit_piece::part_len(source, h.accession)
+        + emit_piece::byte_len(h.opening)
+        + emit_piece::part_len(source, h.gene)
+        + emit_piece::byte_len(h.closing)
         + 3
 }
 
+#[tactic(auto, using(crate::specs::DraftLengths::heading_length, lent::specs::Put::put_put), unfolding(crate::specs::Texts::heading_text))]
 fn put_heading(source: &[u8], out: &mut [u8], at: usize, h: Heading) -> usize
     requires { at + length (heading_text source.now h) ≤ length out.old }
     ensures { (result ≡ at + length (heading_text source.now h)) × (out.new ≡ put out.old at (heading_text source.now h)) }
 {
-    let accession = h.accession;
-    let opening = h.opening;
-    let gene = h.gene;
-    let closing = h.closing;
-    let kind = h.kind;
-    let at = emit_piece::put_part(source, out, at, accession);
-    let at = emit_piece::put_byte(out, at, opening);
-    let at = emit_piece::put_part(source, out, at, gene);
-    let at = emit_piece::put_byte(out, at, closing);
-    emit_kind::put_kind(out, at, kind)
+    let at = emit_piece::put_part(source, out, at, h.accession);
+    let at = emit_piece::put_byte(out, at, h.opening);
+    let at = emit_piece::put_part(source, out, at, h.gene);
+    let at = emit_piece::put_byte(out, at, h.closing);
+    emit_kind::put_kind(out, at, h.kind)
 }
 
+#[tactic(auto, using(crate::specs::DraftLengths::body_length))]
 fn body_len(source: &[u8], b: BodyPieces) -> usize
     requires { length source.now ≤ 4096 }
     ensures { (result ≡ length (body_text source.now b)) × (result ≤ 5 * 4096 + 72) }
 {
-    let location = b.location;
-    let opening = b.opening;
-    let pieces = b.edit;
-    let closing = b.closing;
-    emit_location::location_len(source, location)
-        + emit_piece::byte_len(opening)
-        + emit_edit::edit_len(source, pieces)
-        + emit_piece::byte_len(closing)
+    emit_location::location_len(source, b.location)
+        + emit_piece::byte_len(b.opening)
+        + emit_edit::edit_len(source, b.edit)
+        + emit_piece::byte_len(b.closing)
 }
 
+#[tactic(auto, using(crate::specs::DraftLengths::body_length, lent::specs::Put::put_put), unfolding(crate::specs::Texts::body_text))]
 fn put_body(source: &[u8], out: &mut [u8], at: usize, b: BodyPieces) -> usize
     requires { at + length (body_text source.now b) ≤ length out.old }
     ensures { (result ≡ at + length (body_text source.now b)) × (out.new ≡ put out.old at (body_text source.now b)) }
 {
-    let location = b.location;
-    let opening = b.opening;
-    let pieces = b.edit;
-    let closing = b.closing;
-    let at = emit_location::put_location(source, out, at, location);
-    let at = emit_piece::put_byte(out, at, opening);
-    let at = emit_edit::put_edit(source, out, at, pieces);
-    emit_piece::put_byte(out, at, closing)
+    let at = emit_location::put_location(source, out, at, b.location);
+    let at = emit_piece::put_byte(out, at, b.opening);
+    let at = emit_edit::put_edit(source, out, at, b.edit);
+    emit_piece::put_byte(out, at, b.closing)
 }
 
+#[tactic(auto, using(crate::specs::DraftLengths::draft_length))]
 pub fn draft_len(source: &[u8], d: Draft) -> usize
     requires { length source.now ≤ 4096 }
     ensures { result ≡ length (draft_text source.now d) }
 {
-    let heading = d.heading;
-    let body = d.body;
-    heading_len(source, heading) + body_len(source, body)
+    heading_len(source, d.heading) + body_len(source, d.body)
 }
 
+#[tactic(auto, using(crate::specs::DraftLengths::draft_length, lent::specs::Put::put_put), unfolding(crate::specs::Texts::draft_text))]
 pub fn put_draft(source: &[u8], out: &mut [u8], at: usize, d: Draft) -> usize
     requires { at + length (draft_text source.now d) ≤ length out.old }
     ensures { (result ≡ at + length (draft_text source.now d)) × (out.new ≡ put out.old at (draft_text source.now d)) }
 {
-    let heading = d.heading;
-    let body = d.body;
-    let at = put_heading(source, out, at, heading);
-    put_body(source, out, at, body)
+    let at = put_heading(source, out, at, d.heading);
+    put_body(source, out, at, d.body)
 }

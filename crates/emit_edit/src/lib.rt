@@ -22,41 +22,29 @@ pub struct EditPieces {
 }
 
 // The source's length is bounded so that no sum overflows.
+#[tactic(auto, using(crate::proofs::SignedLengths::signed_pieces_length))]
 pub fn edit_len(source: &[u8], pieces: EditPieces) -> usize
     requires { length source.now ≤ 4096 }
     ensures { (result ≡ length (edit_text source.now pieces)) × (result ≤ 3 * 4096 + 23) }
 {
-    let first = pieces.first;
-    let word = pieces.word;
-    let second = pieces.second;
-    let sign = pieces.sign;
-    let amount = pieces.amount;
-    let joint = pieces.joint;
-    let last = pieces.last;
-    emit_piece::part_len(source, first)
-        + emit_word::word_len(word)
-        + emit_piece::part_len(source, second)
-        + emit_piece::signed_len(sign, amount)
-        + emit_word::word_len(joint)
-        + emit_piece::part_len(source, last)
+    emit_piece::part_len(source, pieces.first)
+        + emit_word::word_len(pieces.word)
+        + emit_piece::part_len(source, pieces.second)
+        + emit_piece::signed_len(pieces.sign, pieces.amount)
+        + emit_word::word_len(pieces.joint)
+        + emit_piece::part_len(source, pieces.last)
 }
 
 // Writes an edit at a place where there is room for it, and gives the place behind it.
+#[tactic(auto, using(crate::proofs::SignedLengths::signed_pieces_length, crate::specs::EditLengths::edit_pairs, lent::specs::Put::put_put))]
 pub fn put_edit(source: &[u8], out: &mut [u8], at: usize, pieces: EditPieces) -> usize
     requires { at + length (edit_text source.now pieces) ≤ length out.old }
     ensures { (result ≡ at + length (edit_text source.now pieces)) × (out.new ≡ put out.old at (edit_text source.now pieces)) }
 {
-    let first = pieces.first;
-    let word = pieces.word;
-    let second = pieces.second;
-    let sign = pieces.sign;
-    let amount = pieces.amount;
-    let joint = pieces.joint;
-    let last = pieces.last;
-    let at = emit_piece::put_part(source, out, at, first);
-    let at = emit_word::put_word(out, at, word);
-    let at = emit_piece::put_part(source, out, at, second);
-    let at = emit_piece::put_signed(out, at, sign, amount);
-    let at = emit_word::put_word(out, at, joint);
-    emit_piece::put_part(source, out, at, last)
+    let at = emit_piece::put_part(source, out, at, pieces.first);
+    let at = emit_word::put_word(out, at, pieces.word);
+    let at = emit_piece::put_part(source, out, at, pieces.second);
+    let at = emit_piece::put_signed(out, at, pieces.sign, pieces.amount);
+    let at = emit_word::put_word(out, at, pieces.joint);
+    emit_piece::put_part(source, out, at, pieces.last)
 }

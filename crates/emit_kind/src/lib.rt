@@ -8,6 +8,7 @@ ghost use Rattle.emit_kind.specs.Letters.{kind_letter};
 
 use record::Kind;
 
+// No `From`: neither type is of this crate.
 fn kind_letter(k: Kind) -> u8
     ensures { result ≡ kind_letter k }
 {
@@ -22,6 +23,7 @@ fn kind_letter(k: Kind) -> u8
 }
 
 // Writes a kind at a place where there is room for it, and gives the place behind it.
+#[tactic(auto, using(grammar::proofs::Header::kind_length, crate::specs::Letters::kind_text))]
 pub fn put_kind(out: &mut [u8], at: usize, k: Kind) -> usize
     requires { at + length (print_kind k) ≤ length out.old }
     ensures { (result ≡ at + length (print_kind k)) × (out.new ≡ put out.old at (print_kind k)) }

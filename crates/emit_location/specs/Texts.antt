@@ -1,9 +1,7 @@
 -- The text of a position and of a location: their parts one behind the other, spans as parts of a source.
-use Rattle.std.specs.Prelude.{ℕ, List, ◌++◌}
+use Rattle.std.specs.Prelude.{ℕ, List, ◌++◌, None}
 use Rattle.grammar.specs.Spans.{part}
 use Rattle.emit_piece.specs.Texts.{byte_text, amount_text, no_span}
-use Rattle.emit_piece.specs.declared.OneByte.TheVariants.{Nothing}
-use Rattle.emit_piece.specs.declared.Amount.TheVariants.{Absent}
 use Rattle.emit_location.specs.declared.PositionPieces.{PositionPieces}
 use Rattle.emit_location.specs.declared.LocationPieces.{LocationPieces}
 
@@ -16,4 +14,4 @@ module _ (s : List ℕ) where
 
 -- nothing to write
 abbrev pub no_end : PositionPieces
-no_end = record { residue = no_span; mark = Nothing; number = Absent; sign = Nothing; offset = Absent }
+no_end = record { residue = no_span; mark = None; number = None; sign = None; offset = None }

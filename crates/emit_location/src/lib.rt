@@ -28,64 +28,48 @@ pub struct LocationPieces {
     pub closing: OneByte,
 }
 
-// The source's length is bounded so that no sum overflows.
+// The source's length is bounded in each function that adds lengths, so that no sum overflows: a type that says so would serve these sums alone.
+#[tactic(auto, using(crate::proofs::SignedLengths::signed_end_length))]
 fn position_len(source: &[u8], e: PositionPieces) -> usize
     requires { length source.now ≤ 4096 }
     ensures { (result ≡ length (position_text source.now e)) × (result ≤ 4096 + 22) }
 {
-    let residue = e.residue;
-    let mark = e.mark;
-    let number = e.number;
-    let sign = e.sign;
-    let offset = e.offset;
-    emit_piece::part_len(source, residue)
-        + emit_piece::signed_len(mark, number)
-        + emit_piece::signed_len(sign, offset)
+    emit_piece::part_len(source, e.residue)
+        + emit_piece::signed_len(e.mark, e.number)
+        + emit_piece::signed_len(e.sign, e.offset)
 }
 
+#[tactic(auto, using(crate::specs::LocationLengths::place_length))]
 pub fn location_len(source: &[u8], p: LocationPieces) -> usize
     requires { length source.now ≤ 4096 }
     ensures { (result ≡ length (location_text source.now p)) × (result ≤ 2 * 4096 + 47) }
 {
-    let opening = p.opening;
-    let start = p.start;
-    let joint = p.joint;
-    let end = p.end;
-    let closing = p.closing;
-    emit_piece::byte_len(opening)
-        + position_len(source, start)
-        + emit_piece::byte_len(joint)
-        + position_len(source, end)
-        + emit_piece::byte_len(closing)
+    emit_piece::byte_len(p.opening)
+        + position_len(source, p.start)
+        + emit_piece::byte_len(p.joint)
+        + position_len(source, p.end)
+        + emit_piece::byte_len(p.closing)
 }
 
 // Each of the following writes a text at a place where there is room for it, and gives the place behind it.
+#[tactic(auto, using(crate::proofs::SignedLengths::signed_end_length, crate::specs::LocationLengths::position_pairs, lent::specs::Put::put_put))]
 fn put_position(source: &[u8], out: &mut [u8], at: usize, e: PositionPieces) -> usize
     requires { at + length (position_text source.now e) ≤ length out.old }
     ensures { (result ≡ at + length (position_text source.now e)) × (out.new ≡ put out.old at (position_text source.now e)) }
 {
-    let residue = e.residue;
-    let mark = e.mark;
-    let number = e.number;
-    let sign = e.sign;
-    let offset = e.offset;
-    let at = emit_piece::put_part(source, out, at, residue);
-    let at = emit_piece::put_signed(out, at, mark, number);
-    emit_piece::put_signed(out, at, sign, offset)
+    let at = emit_piece::put_part(source, out, at, e.residue);
+    let at = emit_piece::put_signed(out, at, e.mark, e.number);
+    emit_piece::put_signed(out, at, e.sign, e.offset)
 }
 
+#[tactic(auto, using(crate::specs::LocationLengths::place_length, lent::specs::Put::put_put), unfolding(crate::specs::Texts::location_text))]
 pub fn put_location(source: &[u8], out: &mut [u8], at: usize, p: LocationPieces) -> usize
     requires { at + length (location_text source.now p) ≤ length out.old }
     ensures { (result ≡ at + length (location_text source.now p)) × (out.new ≡ put out.old at (location_text source.now p)) }
 {
-    let opening = p.opening;
-    let start = p.start;
-    let joint = p.joint;
-    let end = p.end;
-    let closing = p.closing;
-    let at = emit_piece::put_byte(out, at, opening);
-    let at = put_position(source, out, at, start);
-    let at = emit_piece::put_byte(out, at, joint);
-    let at = put_position(source, out, at, end);
-    emit_piece::put_byte(out, at, closing)
+    let at = emit_piece::put_byte(out, at, p.opening);
+    let at = put_position(source, out, at, p.start);
+    let at = emit_piece::put_byte(out, at, p.joint);
+    let at = put_position(source, out, at, p.end);
+    emit_piece::put_byte(out, at, p.closing)
 }

@@ -1,2 +1,1 @@
 pub mod LastDigitFirst
-pub mod BelowZero

@@ -9,28 +9,23 @@ ghost use Rattle.numerals.specs.Digits.{dec};
 pub fn magnitude(v: i32) -> u32
     ensures { result ≡ nat_abs v }
 {
-    if v < 0 {
-        let w = v as i64;
-        (0 - w) as u32
-    } else {
-        v as u32
-    }
+    v.unsigned_abs()
 }
 
-// How long the decimal text of v is.
+// How long the decimal text of v is. No method of the library counts digits.
 pub fn decimal_len(v: u32) -> usize
-    ensures { result ≡ length (dec v) }
+    ensures { (result ≡ length (dec v)) × (result ≤ 10) }
 {
     let mut w = v;
-    let mut n: usize = 1;
+    let mut n = 1;
     while 10 <= w {
-        w = w / 10;
+        w /= 10;
         n += 1;
     }
     n
 }
 
-// Writes the decimal text of v at a place, the last digit first, and gives the place behind it.
+// Writes the decimal text of v at a place, the last digit first, and gives the place behind it. The library's printing of a number needs a sink that may fail.
 pub fn put_decimal(out: &mut [u8], at: usize, v: u32) -> usize
     requires { at + length (dec v) ≤ length out.old }
     ensures { (result ≡ at + length (dec v)) × (out.new ≡ put out.old at (dec v)) }
@@ -40,7 +35,7 @@ pub fn put_decimal(out: &mut [u8], at: usize, v: u32) -> usize
     let mut i = behind - 1;
     while 10 <= rest {
         out[i] = b'0' + (rest % 10) as u8;
-        rest = rest / 10;
+        rest /= 10;
         i -= 1;
     }
     out[i] = b'0' + rest as u8;

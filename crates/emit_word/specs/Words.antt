@@ -20,24 +20,3 @@ word_text Met1 = ascii "Met1?"
 word_text NoProtein = ascii "0"
 word_text NoProteinUncertain = ascii "0?"
 word_text NoChangeUncertain = ascii "(=)"
-
--- the program has every word as a part of one text
-abbrev pub words : List ℕ
-words = ascii "delinsdupinvfsext>Met1?0?(=)"
-
-abbrev pub start_of : Word → ℕ
-start_of Empty = 0
-start_of Del = 0
-start_of Ins = 3
-start_of DelIns = 0
-start_of Dup = 6
-start_of Inv = 9
-start_of Fs = 12
-start_of Ext = 14
-start_of Equal = 26
-start_of Greater = 17
-start_of Question = 22
-start_of Met1 = 18
-start_of NoProtein = 23
-start_of NoProteinUncertain = 23
-start_of NoChangeUncertain = 25

@@ -5,7 +5,6 @@ use Rattle.texts.specs.Tables.{Each}
 use Rattle.texts.proofs.Tables.{each_so, columns}
 use Rattle.numerals.specs.Digits.{val_from}
 use Rattle.numerals.specs.Reading.{or_zero}
-use Rattle.record.specs.declared.Part.TheVariants as Pt
 use Rattle.record.specs.declared.MuCdsInterval.TheVariants as MuCds
 use Rattle.record.specs.declared.MuGenomeInterval.TheVariants as MuGenome
 use Rattle.record.specs.declared.MuProtInterval.TheVariants as MuProt
@@ -13,7 +12,7 @@ use Rattle.record.specs.declared.NaEdit as D
 use Rattle.record.specs.declared.MuNaEdit.TheVariants as MuNa
 use Rattle.record.specs.declared.MuProteinEdit.TheVariants as MuPr
 use Rattle.record.specs.declared.Body.TheVariants as Bo
-use Rattle.record.specs.declared.ReadAnswer.{ReadAnswer}
+use Rattle.record.specs.Named.{ReadAnswer}
 use Rattle.grammar.specs.Texts.{all_letters}
 use Rattle.promise.specs.Outcome.{read_outcome}
 use Rattle.promise.proofs.Unique.{same_read}

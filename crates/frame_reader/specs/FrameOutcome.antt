@@ -1,23 +1,16 @@
 -- What a call's answer carries: at an empty line what reading the text answers, and 8 for a text with a bad line.
-use Rattle.std.specs.Prelude.{◌≡◌}
+use Rattle.std.specs.Prelude as Prelude
+use Rattle.std.specs.Prelude.{None, Some}
 use Rattle.std.proofs.Math.Option.{Option, none, some}
-use Rattle.record.specs.declared.Refusal.{Refusal}
-use Rattle.record.specs.declared.ReadAnswer.TheVariants.{Refused}
+use Rattle.record.specs.Named.{ReadAnswer}
 use Rattle.promise.specs.Outcome.{read_outcome}
 use Rattle.frames.specs.Taking.{Standing, gathered}
 use Rattle.frame_promise.specs.FrameAnswers.{Answer, Says}
-use Rattle.frame_reader.specs.declared.FrameAnswer.{FrameAnswer}
-use Rattle.frame_reader.specs.declared.FrameAnswer.TheVariants.{Unfinished, Answered}
 
-abbrev pub frame_outcome : FrameAnswer → Option Answer
-frame_outcome Unfinished = none
-frame_outcome (Answered r) = some (read_outcome r)
-
-abbrev pub refused_for : Refusal → FrameAnswer
-refused_for r = Answered (Refused r)
+abbrev pub frame_outcome : Prelude.Option ReadAnswer → Option Answer
+frame_outcome None = none
+frame_outcome (Some r) = some (read_outcome r)
 
 -- at an empty line
-pub record AnswersText (g : Standing) (r : FrameAnswer) : Type 0 where
-  pub outcome : Answer
-  pub is : frame_outcome r ≡ some outcome
-  pub says : Says (gathered g) outcome
+abbrev pub AnswersText : Standing → ReadAnswer → Type 0
+AnswersText g r = Says (gathered g) (read_outcome r)

@@ -3,49 +3,36 @@
 
 ghost use Rattle.std.specs.Prelude.{◌≡◌};
 ghost use Rattle.frame_promise.specs.FrameAnswers.{Feeds};
-ghost use Rattle.frame_reader.specs.FrameOutcome.{frame_outcome, refused_for, AnswersText};
+ghost use Rattle.frame_reader.specs.FrameOutcome.{frame_outcome, AnswersText};
 
 use frames::FrameState;
 use record::{ReadAnswer, Refusal};
 
-#[derive(Clone, Copy)]
-pub enum FrameAnswer {
-    // no empty line has come
-    Unfinished,
-    Answered(ReadAnswer),
-}
-
-// How many bytes of a piece were taken, how many of the text are at the buffer's front, the text so far, and the answer of the text that an
-// empty line ended.
+// How many bytes of a piece were taken, how many of the text are at the buffer's front, the text so far, and the answer of the text, where an empty line has ended
+// it.
 #[derive(Clone, Copy)]
 pub struct Fed {
     pub used: usize,
     pub len: usize,
     pub state: FrameState,
-    pub answer: FrameAnswer,
-}
-
-fn refused(why: Refusal) -> FrameAnswer
-    ensures { result ≡ refused_for why }
-{
-    FrameAnswer::Answered(ReadAnswer::Refused(why))
+    pub answer: Option<ReadAnswer>,
 }
 
 // The answer of a text, at its empty line.
-fn answer_of(state: FrameState, buffer: &[u8]) -> FrameAnswer
+fn answer_of(state: FrameState, buffer: &[u8]) -> ReadAnswer
     ensures { AnswersText (record { state = state; buffer = buffer.now }) result }
 {
     if state.bad {
-        return refused(Refusal::BadLine);
+        return Err(Refusal::BadLine);
     }
     if state.long {
-        return refused(Refusal::TooLong);
+        return Err(Refusal::TooLong);
     }
     let len = state.len;
     if buffer.len() < len {
-        return refused(Refusal::TooLong);
+        return Err(Refusal::TooLong);
     }
-    FrameAnswer::Answered(reader::read(&buffer[..len]))
+    reader::read(&buffer[..len])
 }
 
 // Takes the bytes of a piece up to an empty line, or all of them; the buffer holds the text so far.
@@ -60,7 +47,7 @@ pub fn feed(state: FrameState, piece: &[u8], buffer: &mut [u8; 4096]) -> Fed
             used: t.used,
             len,
             state: next,
-            answer: FrameAnswer::Unfinished,
+            answer: None,
         };
     }
     let answer = answer_of(next, buffer);
@@ -69,6 +56,6 @@ pub fn feed(state: FrameState, piece: &[u8], buffer: &mut [u8; 4096]) -> Fed
         used: t.used,
         len,
         state: start,
-        answer,
+        answer: Some(answer),
     }
 }

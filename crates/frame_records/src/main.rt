@@ -2,10 +2,10 @@
 // or `! `, number, a blank, place. The input is fed by calls of a few bytes, so that lines and digits are cut anywhere.
 #![tactic(auto)]
 
-ghost use Rattle.std.specs.Prelude.{◌≤◌, ◌<◌, length};
+ghost use Rattle.std.specs.Prelude.{◌≤◌, length};
 
-use frame_reader::FrameAnswer;
 use frames::FrameState;
+use record::ReadAnswer;
 use std::io::{Read, Write};
 
 // The most bytes of a call.
@@ -19,24 +19,15 @@ struct Shown {
     at: usize,
 }
 
-// Whether to go on, and the text so far.
-#[derive(Clone, Copy)]
-struct Gone {
-    going: bool,
-    state: FrameState,
-}
-
 // The answer and LF, and nothing where there is none. The buffer holds the text at its front.
-fn put_answer(buffer: &[u8], out: &mut [u8], answer: FrameAnswer) -> usize
+fn put_answer(buffer: &[u8], out: &mut [u8], answer: Option<ReadAnswer>) -> usize
     ensures { result ≤ length out.old }
 {
-    match answer {
-        FrameAnswer::Unfinished => 0,
-        FrameAnswer::Answered(r) => {
-            let behind = compare_record::put_answer(buffer, out, r);
-            compare_room::byte(out, behind, b'\n')
-        }
-    }
+    let Some(r) = answer else {
+        return 0;
+    };
+    let behind = compare_record::put_answer(buffer, out, r);
+    compare_room::byte(out, behind, b'\n')
 }
 
 // One call.
@@ -44,54 +35,34 @@ fn turn(state: FrameState, piece: &[u8], buffer: &mut [u8; 4096], out: &mut [u8]
     ensures { (result.used ≤ length piece.now) × (1 ≤ length piece.now → 1 ≤ result.used) × (result.at ≤ length out.old) }
 {
     let f = frame_reader::feed(state, piece, buffer);
-    let answer = f.answer;
-    let at = put_answer(buffer, out, answer);
-    let next = f.state;
     Shown {
         used: f.used,
-        state: next,
-        at,
+        state: f.state,
+        at: put_answer(buffer, out, f.answer),
     }
 }
 
-// Where a call that starts at i ends.
-fn call_end(i: usize, n: usize) -> usize
-    requires { i < n }
-    ensures { (i < result) × (result ≤ n) }
-{
-    if n - i <= CALL {
-        return n;
-    }
-    i + CALL
-}
-
-// All of what was read, while the answers can be written.
+// All of what was read, and the text so far; none where an answer cannot be written.
 fn over<W: Write>(
     to: &mut W,
     piece: &[u8],
     buffer: &mut [u8; 4096],
-    start: FrameState,
+    state: FrameState,
     out: &mut [u8],
-) -> Gone {
-    let mut i: usize = 0;
-    let mut state = start;
-    while i < piece.len() {
-        let end = call_end(i, piece.len());
-        let t = turn(state, &piece[i..end], buffer, out);
-        let at = t.at;
-        let next = t.state;
-        if to.write_all(&out[..at]).is_err() {
-            return Gone {
-                going: false,
-                state: next,
-            };
-        }
-        i += t.used;
-        state = next;
+) -> Option<FrameState> {
+    let mut rest = piece;
+    let mut state = state;
+    while !rest.is_empty() {
+        let call = &rest[..rest.len().min(CALL)];
+        let t = turn(state, call, buffer, out);
+        to.write_all(&out[..t.at]).ok()?;
+        rest = &rest[t.used..];
+        state = t.state;
     }
-    Gone { going: true, state }
+    Some(state)
 }
 
+// Reads once, and answers what came: the text so far, or none where it is not to go on.
 fn once<R: Read, W: Write>(
     from: &mut R,
     to: &mut W,
@@ -99,14 +70,12 @@ fn once<R: Read, W: Write>(
     buffer: &mut [u8; 4096],
     state: FrameState,
     out: &mut [u8],
-) -> Gone {
-    match from.read(input) {
-        Err(_) | Ok(0) => Gone {
-            going: false,
-            state,
-        },
-        Ok(n) => over(to, &input[..n], buffer, state, out),
+) -> Option<FrameState> {
+    let n = from.read(input).ok()?;
+    if n == 0 {
+        return None;
     }
+    over(to, &input[..n], buffer, state, out)
 }
 
 fn every<R: Read, W: Write>(
@@ -117,15 +86,11 @@ fn every<R: Read, W: Write>(
     out: &mut [u8],
 ) {
     let mut state = frame_take::fresh();
-    let mut turns = u64::MAX;
-    while turns > 0 {
-        let o = once(from, to, input, buffer, state, out);
-        if !o.going {
+    for _ in 0..u64::MAX {
+        let Some(next) = once(from, to, input, buffer, state, out) else {
             return;
-        }
-        let next = o.state;
+        };
         state = next;
-        turns -= 1;
     }
 }
 

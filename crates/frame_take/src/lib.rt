@@ -1,16 +1,14 @@
 // Takes the bytes of a piece: lines of hexadecimal, of which a lent buffer gathers the bytes until an empty line.
 #![tactic(auto)]
 
-ghost use Rattle.std.specs.Prelude.{◌≡◌, ◌<◌};
+ghost use Rattle.std.specs.Prelude.{◌≡◌, ◌<◌, MatchOption};
+ghost use Rattle.std.proofs.Math.Option.{none, some};
 ghost use Rattle.frames.specs.Frames.{digit_value};
-ghost use Rattle.frames.specs.Taking.{fresh, closes, or_other, line_closed, spoiled, halved, added, after_byte, takes, told};
+ghost use Rattle.frames.specs.Taking.{fresh, closes, line_closed, spoiled, halved, added, after_byte, takes, told};
 
 use frames::{FrameState, FrameTaken};
 
 const LINE_END: u8 = b'\n';
-
-// A number that no digit has.
-const OTHER: u8 = 16;
 
 // The most digits of a line: those of 32 bytes.
 const MOST_DIGITS: u8 = 64;
@@ -19,69 +17,37 @@ const MOST_DIGITS: u8 = 64;
 pub fn fresh() -> FrameState
     ensures { result ≡ fresh }
 {
-    FrameState {
-        len: 0,
-        long: false,
-        bad: false,
-        digits: 0,
-        high: 0,
-    }
+    FrameState::default()
 }
 
-fn digit_value(b: u8) -> u8
-    ensures { result ≡ or_other (digit_value b) }
+#[tactic(auto, using(crate::proofs::ByteTests::below_digits, crate::proofs::ByteTests::decimal_digit, crate::proofs::ByteTests::below_upper, crate::proofs::ByteTests::upper_digit, crate::proofs::ByteTests::below_lower, crate::proofs::ByteTests::lower_digit, crate::proofs::ByteTests::above_digits))]
+fn digit_value(b: u8) -> Option<u8>
+    ensures { MatchOption result (digit_value b ≡ none) (λ v. digit_value b ≡ some v) }
 {
-    if b < b'0' {
-        return OTHER;
+    match b {
+        b'0'..=b'9' => Some(b - b'0'),
+        b'A'..=b'F' => Some(b - b'A' + 10),
+        b'a'..=b'f' => Some(b - b'a' + 10),
+        _ => None,
     }
-    if b <= b'9' {
-        return b - b'0';
-    }
-    if b < b'A' {
-        return OTHER;
-    }
-    if b <= b'F' {
-        return b - b'A' + 10;
-    }
-    if b < b'a' {
-        return OTHER;
-    }
-    if b <= b'f' {
-        return b - b'a' + 10;
-    }
-    OTHER
 }
 
 // The byte is an empty line.
 fn closes(state: FrameState, b: u8) -> bool
     ensures { result ≡ closes state b }
 {
-    if b == LINE_END {
-        return state.digits == 0;
-    }
-    false
+    b == LINE_END && state.digits == 0
 }
 
 // Behind a line that is not empty: an odd digit makes it bad.
 fn line_closed(state: FrameState) -> FrameState
     ensures { result ≡ line_closed state }
 {
-    let odd = state.digits % 2;
-    if odd == 0 {
-        return FrameState {
-            len: state.len,
-            long: state.long,
-            bad: state.bad,
-            digits: 0,
-            high: 0,
-        };
-    }
     FrameState {
-        len: state.len,
-        long: state.long,
-        bad: true,
+        bad: state.bad || state.digits % 2 != 0,
         digits: 0,
         high: 0,
+        ..state
     }
 }
 
@@ -90,11 +56,10 @@ fn spoiled(state: FrameState) -> FrameState
     ensures { result ≡ spoiled state }
 {
     FrameState {
-        len: state.len,
-        long: state.long,
         bad: true,
         digits: 1,
         high: 0,
+        ..state
     }
 }
 
@@ -104,11 +69,9 @@ fn halved(state: FrameState, value: u8) -> FrameState
     ensures { result ≡ halved state value }
 {
     FrameState {
-        len: state.len,
-        long: state.long,
-        bad: state.bad,
         digits: state.digits + 1,
         high: value,
+        ..state
     }
 }
 
@@ -117,23 +80,22 @@ fn add_byte(buffer: &mut [u8], state: FrameState, b: u8) -> FrameState
     requires { state.digits < 64 }
     ensures { record { state = result; buffer = buffer.new } ≡ added (record { state = state; buffer = buffer.old }) b }
 {
-    let len = state.len;
-    if len < buffer.len() {
-        buffer[len] = b;
-        return FrameState {
-            len: len + 1,
-            long: state.long,
-            bad: state.bad,
-            digits: state.digits + 1,
-            high: 0,
-        };
-    }
-    FrameState {
-        len,
-        long: true,
-        bad: state.bad,
+    let paired = FrameState {
         digits: state.digits + 1,
         high: 0,
+        ..state
+    };
+    if paired.len < buffer.len() {
+        buffer[paired.len] = b;
+        FrameState {
+            len: paired.len + 1,
+            ..paired
+        }
+    } else {
+        FrameState {
+            long: true,
+            ..paired
+        }
     }
 }
 
@@ -144,43 +106,36 @@ fn after_byte(buffer: &mut [u8], state: FrameState, b: u8) -> FrameState
     if b == LINE_END {
         return line_closed(state);
     }
-    let value = digit_value(b);
-    if OTHER <= value {
-        return spoiled(state);
+    match digit_value(b) {
+        Some(value) if !state.bad && state.digits < MOST_DIGITS => {
+            if state.digits % 2 == 0 {
+                halved(state, value)
+            } else {
+                add_byte(buffer, state, state.high % 16 * 16 + value)
+            }
+        }
+        _ => spoiled(state),
     }
-    if state.bad {
-        return spoiled(state);
-    }
-    if MOST_DIGITS <= state.digits {
-        return spoiled(state);
-    }
-    if state.digits % 2 == 0 {
-        return halved(state, value);
-    }
-    add_byte(buffer, state, state.high % 16 * 16 + value)
 }
 
 // Takes the bytes of a piece up to an empty line, or all of them.
 pub fn take(piece: &[u8], buffer: &mut [u8], state: FrameState) -> FrameTaken
     ensures { (result ≡ told (takes (record { state = state; buffer = buffer.old }) piece.now)) × (buffer.new ≡ (takes (record { state = state; buffer = buffer.old }) piece.now).at.buffer) }
 {
-    let mut s = state;
-    let mut i: usize = 0;
-    while i < piece.len() {
-        let b = piece[i];
-        if closes(s, b) {
+    let mut state = state;
+    for (i, b) in piece.iter().enumerate() {
+        if closes(state, *b) {
             return FrameTaken {
                 used: i + 1,
                 ended: true,
-                state: s,
+                state,
             };
         }
-        s = after_byte(buffer, s, b);
-        i += 1;
+        state = after_byte(buffer, state, *b);
     }
     FrameTaken {
-        used: i,
+        used: piece.len(),
         ended: false,
-        state: s,
+        state,
     }
 }

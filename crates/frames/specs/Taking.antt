@@ -19,11 +19,6 @@ pub record Standing : Type 0 where
 abbrev pub closes : FrameState → ℕ → Bool
 closes s b = eqb b line_end && eqb s.digits 0
 
--- the program's number for a digit, and for another byte
-abbrev pub or_other : Option ℕ → ℕ
-or_other none = 16
-or_other (some v) = v
-
 -- behind a line that is not empty: an odd digit makes it bad
 abbrev pub line_closed : FrameState → FrameState
 line_closed s = record { len = s.len; long = s.long; bad = s.bad || not (eqb (s.digits % 2) 0); digits = 0; high = 0 }

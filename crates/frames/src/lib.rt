@@ -3,7 +3,8 @@
 
 // The text so far: how many of its bytes the buffer holds, whether it has more than fit, whether a line of it is bad;
 // and of the line so far how many digits have come, and the value of one that waits for its second.
-#[derive(Clone, Copy)]
+// No two fields are one enum, since any state is taken (docs/DECISIONS.md, "Frames").
+#[derive(Clone, Copy, Debug, Default, PartialEq, Eq)]
 pub struct FrameState {
     pub len: usize,
     pub long: bool,
@@ -13,7 +14,8 @@ pub struct FrameState {
 }
 
 // How many bytes of a piece were used, whether the last of them is an empty line, and the text with them.
-#[derive(Clone, Copy)]
+// No instance of one type with `lines::Taken`: a caller reads here that a text has ended, and there that a line is complete.
+#[derive(Clone, Copy, Debug, PartialEq, Eq)]
 pub struct FrameTaken {
     pub used: usize,
     pub ended: bool,

@@ -5,8 +5,6 @@ use Rattle.texts.specs.Tables.{Each}
 use Rattle.texts.proofs.Tables.{Agree, agreed}
 use Rattle.numerals.specs.Digits.{val_from}
 use Rattle.numerals.specs.Reading.{or_zero}
-use Rattle.record.specs.declared.GenomePos.TheVariants as G
-use Rattle.record.specs.declared.MtPos.TheVariants as M
 use Rattle.grammar.specs.ProteinEdits as P
 use Rattle.grammar.specs.Bodies as B
 use Rattle.grammar.specs.Values as Values

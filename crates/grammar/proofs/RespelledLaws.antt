@@ -1,5 +1,5 @@
 -- Plainly spelled, a tree means what it meant; its numbers fit where they did, and all of them are plain.
-use Rattle.std.specs.Prelude.{ℕ, ◌+◌, ◌≡◌, List, ◌++◌, Bool, not, cond, eqb}
+use Rattle.std.specs.Prelude.{ℕ, ◌+◌, ◌≡◌, List, ◌++◌, Bool, not, cond, eqb, Some}
 use Rattle.std.proofs.Math.Path.{refl}
 use Rattle.std.proofs.Common.{sym, ap, ◌∙◌, eqb-true}
 use Rattle.std.proofs.Math.Option.{none, some}
@@ -14,7 +14,6 @@ use Rattle.numerals.specs.Reading.{fits, or_zero}
 use Rattle.numerals.proofs.Plain.{dec_plain}
 use Rattle.record.specs.declared.Kind.{Kind}
 use Rattle.record.specs.declared.Kind.TheVariants.{Cds, Genome, Mt, Tx, Prot, Rna}
-use Rattle.record.specs.declared.Offset.TheVariants.{By}
 use Rattle.grammar.specs.Positions.{Mark, Mark.bare, Mark.plus, Mark.minus, Mark.star, OffsetTree, OffsetTree.absent, OffsetTree.ahead, OffsetTree.back, Based, Based.based, Genomic.known, Genomic.unknown, Residual.residual, PositionTree, print_mark, print_position}
 use Rattle.grammar.specs.Shapes.{Interval.one, Interval.two, Mu, Mu.certain, Mu.uncertain, Both.both}
 use Rattle.grammar.specs.NucleotideEdits.{NaEditTree, NaEditTree.equal, NaEditTree.swap, NaEditTree.del_ins, NaEditTree.del_num_ins, NaEditTree.del_num, NaEditTree.del, NaEditTree.ins, NaEditTree.dup, NaEditTree.inv_num, NaEditTree.inv}
@@ -86,7 +85,7 @@ offset_same absent = refl
 offset_same (ahead ds) = rw (number_same Unsigned ds)
 offset_same (back ds) = rw (← number_same Minus ds) (go (eqb (val ds) 0))
   where
-    go : (t : Bool) → offset_of (cond t (ahead (respelled_digits ds)) (back (respelled_digits ds))) ≡ By (number (cond t Unsigned Minus) (respelled_digits ds))
+    go : (t : Bool) → offset_of (cond t (ahead (respelled_digits ds)) (back (respelled_digits ds))) ≡ Some (number (cond t Unsigned Minus) (respelled_digits ds))
     go true = refl
     go false = refl
 

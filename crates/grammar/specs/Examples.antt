@@ -1,5 +1,5 @@
 -- Some trees: the texts that they print as, what they mean, and their numbers with their places.
-use Rattle.std.specs.Prelude.{ℕ, List, [], ◌∷◌, ℤ, pos, negsuc}
+use Rattle.std.specs.Prelude.{ℕ, List, [], ◌∷◌, ℤ, pos, negsuc, None, Some}
 use Prim.Native.Char.{code}
 use Prim.Native.String.{String}
 use Rattle.std.proofs.Math.Option.{Option, none, some}
@@ -7,13 +7,10 @@ use Rattle.texts.specs.Ascii.{ascii}
 use Rattle.numerals.specs.declared.Sign.TheVariants.{Unsigned, Plus, Minus, Negated}
 use Rattle.record.specs.declared.Kind.{Kind}
 use Rattle.record.specs.declared.Kind.TheVariants.{Cds, Genome, Mt, Tx, Prot, Rna}
-use Rattle.record.specs.declared.Offset.TheVariants.{Absent, By}
 use Rattle.record.specs.declared.CdsFrom.{CdsFrom}
 use Rattle.record.specs.declared.CdsFrom.TheVariants.{Start, End}
 use Rattle.record.specs.declared.CdsPos.{CdsPos}
-use Rattle.record.specs.declared.GenomePos.TheVariants as G
-use Rattle.record.specs.declared.MtPos.TheVariants as M
-use Rattle.record.specs.declared.UncertainLengthChange.TheVariants.{None, Unknown, Known}
+use Rattle.record.specs.declared.UncertainLengthChange.TheVariants.{None as NoLength, Unknown, Known}
 use Rattle.grammar.specs.Header.{Accession.accession, HeaderTree, HeaderTree.header, print_header, print_kind}
 use Rattle.grammar.specs.Positions.{Mark.bare, Mark.plus, Mark.minus, Mark.star, OffsetTree.absent, OffsetTree.ahead, OffsetTree.back, Based, Based.based, Genomic.known, Genomic.unknown, Residual.residual, print_position}
 use Rattle.grammar.specs.Shapes.{Interval.one, Interval.two, Mu.certain, Mu.uncertain, Both.both}
@@ -142,12 +139,12 @@ edit_values =
 
 abbrev pub cds_values : List (CdsPos × CdsPos)
 cds_values =
-    (meaning_cds (based bare (ascii "76") absent), record { base = pos 76; offset = Absent; cds_from = Start }) ∷
-    (meaning_cds (based plus (ascii "76") (ahead (ascii "0"))), record { base = pos 76; offset = By (pos 0); cds_from = Start }) ∷
-    (meaning_cds (based bare (ascii "76") (ahead (ascii "2"))), record { base = pos 76; offset = By (pos 2); cds_from = Start }) ∷
-    (meaning_cds (based minus (ascii "0") (back (ascii "0"))), record { base = pos 0; offset = By (pos 0); cds_from = Start }) ∷
-    (meaning_cds (based minus (ascii "2147483648") absent), record { base = negsuc 2147483647; offset = Absent; cds_from = Start }) ∷
-    (meaning_cds (based star (ascii "5") (back (ascii "3"))), record { base = pos 5; offset = By (negsuc 2); cds_from = End }) ∷
+    (meaning_cds (based bare (ascii "76") absent), record { base = pos 76; offset = None; cds_from = Start }) ∷
+    (meaning_cds (based plus (ascii "76") (ahead (ascii "0"))), record { base = pos 76; offset = Some (pos 0); cds_from = Start }) ∷
+    (meaning_cds (based bare (ascii "76") (ahead (ascii "2"))), record { base = pos 76; offset = Some (pos 2); cds_from = Start }) ∷
+    (meaning_cds (based minus (ascii "0") (back (ascii "0"))), record { base = pos 0; offset = Some (pos 0); cds_from = Start }) ∷
+    (meaning_cds (based minus (ascii "2147483648") absent), record { base = negsuc 2147483647; offset = None; cds_from = Start }) ∷
+    (meaning_cds (based star (ascii "5") (back (ascii "3"))), record { base = pos 5; offset = Some (negsuc 2); cds_from = End }) ∷
     []
 
 abbrev pub protein_values : List (ProteinEditV × ProteinEditV)
@@ -160,7 +157,7 @@ protein_values =
     (meaning_protein_edit (P.ProteinEditTree.ins (ascii "RG")), ins_pv (ascii "RG")) ∷
     (meaning_protein_edit (P.ProteinEditTree.del_ins (ascii "RG")), del_ins_v (ascii "RG")) ∷
     (meaning_protein_edit (fs (some (ascii "Arg")) (some (stop ter (counted (ascii "9"))))), fs_v (some (ascii "Arg")) (some (ascii "Ter")) (Known (pos 9))) ∷
-    (meaning_protein_edit (fs none none), fs_v none none None) ∷
+    (meaning_protein_edit (fs none none), fs_v none none NoLength) ∷
     (meaning_protein_edit (ext none (later (stop x P.Length.unknown))), ext_v none (some (ascii "X")) Unknown) ∷
     (meaning_protein_edit (ext none (earlier (some (ascii "Met")) (ascii "5"))), ext_v none (some (ascii "Met")) (Known (negsuc 4))) ∷
     []
@@ -178,7 +175,7 @@ body_values =
     []
 
 abbrev pub cds : ℤ → ℤ → CdsFrom → CdsPos
-cds n o f = record { base = n; offset = By o; cds_from = f }
+cds n o f = record { base = n; offset = Some o; cds_from = f }
 
 abbrev pub under : Option (List ℕ) → (k : Kind) → BodyV k → Value
 under gene k b = value (header_v (ascii "AB_12.3") gene) k b
@@ -186,10 +183,10 @@ under gene k b = value (header_v (ascii "AB_12.3") gene) k b
 abbrev pub values : List (Value × Value)
 values =
     (meaning intronic, under none Cds (both (certain (both (cds (negsuc 6) (pos 2) Start) (cds (pos 8) (negsuc 2) End))) (certain (num_alt (pos 12) (ascii "T"))))) ∷
-    (meaning inverted, under (some (ascii "KIT")) Genome (both (uncertain (both (G.At (pos 5)) (G.At (pos 5)))) (uncertain (Values.NaEditV.inv_num (pos 3))))) ∷
-    (meaning mitochondrial, under none Mt (both (certain (both (M.At (pos 76)) M.Unknown)) (certain (Values.NaEditV.del_num (pos 12))))) ∷
-    (meaning transcribed, under none Tx (both (uncertain (both (record { base = negsuc 6; offset = By (pos 2) }) (record { base = negsuc 6; offset = By (pos 2) }))) (certain (ins_v (ascii "AC"))))) ∷
-    (meaning doubled, under none Rna (both (certain (both (record { base = pos 8; offset = Absent }) (record { base = pos 9; offset = By (negsuc 0) }))) (uncertain (dup_v [])))) ∷
+    (meaning inverted, under (some (ascii "KIT")) Genome (both (uncertain (both (Some (pos 5)) (Some (pos 5)))) (uncertain (Values.NaEditV.inv_num (pos 3))))) ∷
+    (meaning mitochondrial, under none Mt (both (certain (both (Some (pos 76)) None)) (certain (Values.NaEditV.del_num (pos 12))))) ∷
+    (meaning transcribed, under none Tx (both (uncertain (both (record { base = negsuc 6; offset = Some (pos 2) }) (record { base = negsuc 6; offset = Some (pos 2) }))) (certain (ins_v (ascii "AC"))))) ∷
+    (meaning doubled, under none Rna (both (certain (both (record { base = pos 8; offset = None }) (record { base = pos 9; offset = Some (negsuc 0) }))) (uncertain (dup_v [])))) ∷
     (meaning lengthened, under none Prot (ordinary (both (uncertain (both (prot_pos_v (ascii "Gly") (pos 2)) (prot_pos_v (ascii "Arg") (pos 7)))) (uncertain (ext_v none (some (ascii "Met")) (Known (negsuc 4))))))) ∷
     (meaning shifted, under none Prot (ordinary (both (certain (both (prot_pos_v (ascii "Gly") (pos 2)) (prot_pos_v (ascii "Gly") (pos 2)))) (certain (fs_v (some (ascii "Arg")) (some (ascii "Ter")) (Known (pos 9))))))) ∷
     []

@@ -1,5 +1,5 @@
 -- What each tree means.
-use Rattle.std.specs.Prelude.{ℕ, List, [], ◌∷◌, ℤ}
+use Rattle.std.specs.Prelude.{ℕ, List, [], ◌∷◌, ℤ, None, Some}
 use Rattle.std.proofs.Math.Option.{Option, none, some}
 use Rattle.texts.specs.Ascii.{ascii}
 use Rattle.numerals.specs.declared.Sign.{Sign}
@@ -8,19 +8,13 @@ use Rattle.numerals.specs.Digits.{val}
 use Rattle.numerals.specs.Reading.{or_zero}
 use Rattle.record.specs.declared.Kind.{Kind}
 use Rattle.record.specs.declared.Kind.TheVariants.{Cds, Genome, Mt, Tx, Prot, Rna}
-use Rattle.record.specs.declared.Offset as Declared
-use Rattle.record.specs.declared.Offset.TheVariants.{Absent, By}
+use Rattle.record.specs.Named as Declared
 use Rattle.record.specs.declared.CdsFrom.{CdsFrom}
 use Rattle.record.specs.declared.CdsFrom.TheVariants.{Start, End}
 use Rattle.record.specs.declared.CdsPos.{CdsPos}
-use Rattle.record.specs.declared.GenomePos.{GenomePos}
-use Rattle.record.specs.declared.GenomePos.TheVariants.{Unknown as UnknownG, At as AtG}
-use Rattle.record.specs.declared.MtPos.{MtPos}
-use Rattle.record.specs.declared.MtPos.TheVariants.{Unknown as UnknownM, At as AtM}
-use Rattle.record.specs.declared.TxPos.{TxPos}
-use Rattle.record.specs.declared.RnaPos.{RnaPos}
+use Rattle.record.specs.Named.{GenomePos, MtPos, TxPos, RnaPos}
 use Rattle.record.specs.declared.UncertainLengthChange.{UncertainLengthChange}
-use Rattle.record.specs.declared.UncertainLengthChange.TheVariants.{None, Unknown, Known}
+use Rattle.record.specs.declared.UncertainLengthChange.TheVariants.{None as NoLength, Unknown, Known}
 use Rattle.grammar.specs.Header.{HeaderTree, HeaderTree.header, print_accession}
 use Rattle.grammar.specs.Positions.{Mark, Mark.bare, Mark.plus, Mark.minus, Mark.star, OffsetTree, OffsetTree.absent, OffsetTree.ahead, OffsetTree.back, Based, Based.based, Genomic, Genomic.known, Genomic.unknown, Residual, Residual.residual, PositionTree}
 use Rattle.grammar.specs.Shapes.{Interval, Interval.one, Interval.two, Mu, Mu.certain, Mu.uncertain, Both, Both.both}
@@ -51,9 +45,9 @@ from_of star = End
 
 -- `+0` is an offset of 0, which differs from no offset
 abbrev pub offset_of : OffsetTree → Declared.Offset
-offset_of absent = Absent
-offset_of (ahead ds) = By (number Unsigned ds)
-offset_of (back ds) = By (number Minus ds)
+offset_of absent = None
+offset_of (ahead ds) = Some (number Unsigned ds)
+offset_of (back ds) = Some (number Minus ds)
 
 abbrev pub meaning_cds : Based → CdsPos
 meaning_cds (based m ds o) = record { base = number (sign_of m) ds; offset = offset_of o; cds_from = from_of m }
@@ -65,12 +59,12 @@ abbrev pub meaning_rna : Based → RnaPos
 meaning_rna (based m ds o) = record { base = number (sign_of m) ds; offset = offset_of o }
 
 abbrev pub meaning_genome : Genomic → GenomePos
-meaning_genome (known ds) = AtG (number Unsigned ds)
-meaning_genome unknown = UnknownG
+meaning_genome (known ds) = Some (number Unsigned ds)
+meaning_genome unknown = None
 
 abbrev pub meaning_mt : Genomic → MtPos
-meaning_mt (known ds) = AtM (number Unsigned ds)
-meaning_mt unknown = UnknownM
+meaning_mt (known ds) = Some (number Unsigned ds)
+meaning_mt unknown = None
 
 abbrev pub meaning_prot : Residual → ProtPosV
 meaning_prot (residual r ds) = prot_pos_v r (number Unsigned ds)
@@ -118,15 +112,15 @@ meaning_na_body k = map_both (map_mu (meaning_ends k)) (map_mu meaning_na_edit)
 abbrev pub length_of : Length → UncertainLengthChange
 length_of (counted ds) = Known (number Unsigned ds)
 length_of P.Length.unknown = Unknown
-length_of unsaid = None
+length_of unsaid = NoLength
 
 abbrev pub meaning_fs : Option (List ℕ) → Option Stop → ProteinEditV
-meaning_fs r none = fs_v r none None
+meaning_fs r none = fs_v r none NoLength
 meaning_fs r (some (stop t n)) = fs_v r (some (print_terminal t)) (length_of n)
 
 -- after `-` the change is the negative of the digits' number
 abbrev pub meaning_ext : Option (List ℕ) → ExtEnd → ProteinEditV
-meaning_ext r nothing = ext_v r none None
+meaning_ext r nothing = ext_v r none NoLength
 meaning_ext r (later (stop t n)) = ext_v r (some (print_terminal t)) (length_of n)
 meaning_ext r (earlier q ds) = ext_v r q (Known (number Negated ds))
 

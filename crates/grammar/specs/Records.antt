@@ -1,24 +1,13 @@
 -- The record that a tree gives: spans where its parts stand, in a text in which the tree starts at a place.
-use Rattle.std.specs.Prelude.{ℕ, ◌+◌, List, [], length}
+use Rattle.std.specs.Prelude.{ℕ, ◌+◌, List, [], length, None, Some}
 use Rattle.std.proofs.Math.Option.{Option, none, some}
 use Rattle.numerals.specs.declared.Sign.TheVariants.{Unsigned, Negated}
 use Rattle.record.specs.declared.Span.{Span}
-use Rattle.record.specs.declared.Part.{Part}
-use Rattle.record.specs.declared.Part.TheVariants.{Absent, Present}
+use Rattle.record.specs.Named.{Part, GenomePos, MtPos, TxPos, RnaPos, CdsInterval, GenomeInterval, MtInterval, TxInterval, RnaInterval, ProtInterval}
 use Rattle.record.specs.declared.Kind.{Kind}
 use Rattle.record.specs.declared.Kind.TheVariants.{Cds, Genome, Mt, Tx, Prot, Rna}
 use Rattle.record.specs.declared.CdsPos.{CdsPos}
-use Rattle.record.specs.declared.GenomePos.{GenomePos}
-use Rattle.record.specs.declared.MtPos.{MtPos}
-use Rattle.record.specs.declared.TxPos.{TxPos}
-use Rattle.record.specs.declared.RnaPos.{RnaPos}
 use Rattle.record.specs.declared.ProtPos.{ProtPos}
-use Rattle.record.specs.declared.CdsInterval.{CdsInterval}
-use Rattle.record.specs.declared.GenomeInterval.{GenomeInterval}
-use Rattle.record.specs.declared.MtInterval.{MtInterval}
-use Rattle.record.specs.declared.TxInterval.{TxInterval}
-use Rattle.record.specs.declared.RnaInterval.{RnaInterval}
-use Rattle.record.specs.declared.ProtInterval.{ProtInterval}
 use Rattle.record.specs.declared.MuCdsInterval.{MuCdsInterval}
 use Rattle.record.specs.declared.MuGenomeInterval.{MuGenomeInterval}
 use Rattle.record.specs.declared.MuMtInterval.{MuMtInterval}
@@ -35,7 +24,7 @@ use Rattle.record.specs.declared.NaEdit as D
 use Rattle.record.specs.declared.NaEdit.TheVariants as Na
 use Rattle.record.specs.declared.MuNaEdit.{MuNaEdit}
 use Rattle.record.specs.declared.MuNaEdit.TheVariants as MuNa
-use Rattle.record.specs.declared.UncertainLengthChange.TheVariants.{None, Known}
+use Rattle.record.specs.declared.UncertainLengthChange.TheVariants.{None as NoLength, Known}
 use Rattle.record.specs.declared.ProteinEdit as DP
 use Rattle.record.specs.declared.ProteinEdit.TheVariants as Pr
 use Rattle.record.specs.declared.MuProteinEdit.{MuProteinEdit}
@@ -66,8 +55,8 @@ abbrev pub span_of : ℕ → List ℕ → Span
 span_of k s = span k (length s)
 
 abbrev pub part_of : ℕ → Option (List ℕ) → Part
-part_of k none = Absent
-part_of k (some s) = Present (span_of k s)
+part_of k none = None
+part_of k (some s) = Some (span_of k s)
 
 -- ---- positions
 abbrev pub PositionR : Kind → Type 0
@@ -157,12 +146,12 @@ mu_na_edit_at k (uncertain e) = MuNa.Uncertain (na_edit_at (k + 1) e)
 
 -- ---- protein edits: of `fs` and `ext`, k is where the word starts
 abbrev pub fs_at : Part → ℕ → Option Stop → DP.ProteinEdit
-fs_at r k none = Pr.Fs r Absent None
-fs_at r k (some (stop t n)) = Pr.Fs r (Present (span_of (k + 2) (print_terminal t))) (length_of n)
+fs_at r k none = Pr.Fs r None NoLength
+fs_at r k (some (stop t n)) = Pr.Fs r (Some (span_of (k + 2) (print_terminal t))) (length_of n)
 
 abbrev pub ext_at : Part → ℕ → ExtEnd → DP.ProteinEdit
-ext_at r k nothing = Pr.Ext r Absent None
-ext_at r k (later (stop t n)) = Pr.Ext r (Present (span_of (k + 3) (print_terminal t))) (length_of n)
+ext_at r k nothing = Pr.Ext r None NoLength
+ext_at r k (later (stop t n)) = Pr.Ext r (Some (span_of (k + 3) (print_terminal t))) (length_of n)
 ext_at r k (earlier q ds) = Pr.Ext r (part_of (k + 3) q) (Known (number Negated ds))
 
 abbrev pub protein_edit_at : ℕ → ProteinEditTree → DP.ProteinEdit

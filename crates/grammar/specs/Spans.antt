@@ -1,9 +1,8 @@
 -- What a span names in a source.
-use Rattle.std.specs.Prelude.{ℕ, ◌-◌, List, [], Bool, true, cond, ◌&&◌, leb, length, take, drop}
+use Rattle.std.specs.Prelude.{ℕ, ◌-◌, List, [], Bool, true, cond, ◌&&◌, leb, length, take, drop, None, Some}
 use Rattle.std.proofs.Math.Option.{Option, none, some}
 use Rattle.record.specs.declared.Span.{Span}
-use Rattle.record.specs.declared.Part.{Part}
-use Rattle.record.specs.declared.Part.TheVariants.{Absent, Present}
+use Rattle.record.specs.Named.{Part}
 
 -- it does not start after its end, and does not end past a source of n bytes
 abbrev pub inside : ℕ → Span → Bool
@@ -14,9 +13,9 @@ unfoldable pub part : List ℕ → Span → List ℕ
 part s p = cond (inside (length s) p) (take (p.end - p.start) (drop p.start s)) []
 
 abbrev pub inside_optional : ℕ → Part → Bool
-inside_optional n Absent = true
-inside_optional n (Present p) = inside n p
+inside_optional n None = true
+inside_optional n (Some p) = inside n p
 
 abbrev pub optional_part : List ℕ → Part → Option (List ℕ)
-optional_part s Absent = none
-optional_part s (Present p) = some (part s p)
+optional_part s None = none
+optional_part s (Some p) = some (part s p)

@@ -4,10 +4,7 @@ use Rattle.std.proofs.Math.Option.{Option}
 use Rattle.record.specs.declared.Kind.{Kind}
 use Rattle.record.specs.declared.Kind.TheVariants.{Cds, Genome, Mt, Tx, Prot, Rna}
 use Rattle.record.specs.declared.CdsPos.{CdsPos}
-use Rattle.record.specs.declared.GenomePos.{GenomePos}
-use Rattle.record.specs.declared.MtPos.{MtPos}
-use Rattle.record.specs.declared.TxPos.{TxPos}
-use Rattle.record.specs.declared.RnaPos.{RnaPos}
+use Rattle.record.specs.Named.{GenomePos, MtPos, TxPos, RnaPos}
 use Rattle.record.specs.declared.UncertainLengthChange.{UncertainLengthChange}
 use Rattle.grammar.specs.Shapes.{Mu, Both}
 

@@ -4,13 +4,16 @@ use mathlib.Core.Path.{◌≡◌, refl, sym, ap, ◌∙◌}
 use mathlib.Core.List.{List, [], ◌∷◌, ◌++◌}
 use mathlib.Core.Bool.{Bool, true, false}
 use native.Mathlib.Omega.{arith}
+use lib.Dec.{eqb}
+use Rattle.std.proofs.Common.{eqb-true}
+use Rattle.std.proofs.lemmas.Bool.{eqb-false}
 use lib.ListN.{length, take, drop, get_or, length-append, length-drop}
 use lib.Seq.{drop-drop}
 use borrow.Author.Tests.{le-leb}
 use Rattle.texts.specs.Ascii.{ascii}
 use Rattle.texts.specs.Runs.{run, front, behind}
 use Rattle.texts.proofs.Runs.{run_le, front_length}
-use Rattle.texts.proofs.Tests.{and_false}
+use Rattle.texts.proofs.Tests.{clash, and_false}
 use Rattle.texts.proofs.Slices.{tail_part}
 use Rattle.texts.specs.Words.{starts}
 use Rattle.texts.proofs.Words.{starts_length}
@@ -44,22 +47,22 @@ module _ (word : List ℕ) (p : ℕ → Bool) (s : List ℕ) where
         rw (e, ← counted, le-leb 1 n (omega arith)) (omega (arith, length-append word (front p x), front_length p x, counted))
 
 -- ---- the accession
-pub no_accession_end : (s : List ℕ) → length s ≡ 0 → 0 ≡ accession_length (parse_accession s)
+pub no_accession_end : (s : List ℕ) → eqb (length s) 0 ≡ true → 0 ≡ accession_length (parse_accession s)
 unfolding parse_accession
 no_accession_end [] h = refl
-no_accession_end (b ∷ s) h = absurd (omega arith)
+no_accession_end (b ∷ s) h = absurd (let e = eqb-true (length (b ∷ s)) 0 h in omega arith)
 
-pub no_initial : (s : List ℕ) → (length s ≡ 0 → ⊥) → letter (get_or s 0 0) ≡ false → 0 ≡ accession_length (parse_accession s)
+pub no_initial : (s : List ℕ) → eqb (length s) 0 ≡ false → letter (get_or s 0 0) ≡ false → 0 ≡ accession_length (parse_accession s)
 unfolding parse_accession
-no_initial [] h e = absurd (h refl)
+no_initial [] h e = absurd (clash refl h)
 no_initial (b ∷ s) h e = rw e
 
-module _ (s : List ℕ) (h : length s ≡ 0 → ⊥) {n : ℕ} (en : n ≡ run alphanumeric (take (length s - 1) (drop 1 s))) where
+module _ (s : List ℕ) (h : eqb (length s) 0 ≡ false) {n : ℕ} (en : n ≡ run alphanumeric (take (length s - 1) (drop 1 s))) where
   name_is : n ≡ run alphanumeric (drop 1 s)
   name_is = rw tail_part at en
 
   pub name_le : 1 + n ≤ length s
-  name_le = omega (arith, name_is, run_le alphanumeric (drop 1 s), length-drop 1 s)
+  name_le = omega (arith, eqb-false (length s) 0 h, name_is, run_le alphanumeric (drop 1 s), length-drop 1 s)
 
   module _ {b : ℕ} (eb : b ≡ optional_length (ascii "_") (suffix_of (take (length s - (1 + n)) (drop (1 + n) s)))) where
     suffix_is : b ≡ optional_length (ascii "_") (suffix_of (drop (1 + n) s))
@@ -78,20 +81,20 @@ module _ (s : List ℕ) (h : length s ≡ 0 → ⊥) {n : ℕ} (en : n ≡ run a
 three_lengths : (a b c : List ℕ) → length (a ++ (b ++ c)) ≡ length a + length b + length c
 three_lengths a b c = simp length-append (omega arith)
 
-pub no_name : (s : List ℕ) → (length s ≡ 0 → ⊥) → {n : ℕ} → n ≡ run alphanumeric (take (length s - 1) (drop 1 s)) → n ≡ 0 → 0 ≡ accession_length (parse_accession s)
+pub no_name : (s : List ℕ) → eqb (length s) 0 ≡ false → {n : ℕ} → n ≡ run alphanumeric (take (length s - 1) (drop 1 s)) → n ≡ 0 → 0 ≡ accession_length (parse_accession s)
 unfolding parse_accession
-no_name [] h en z = absurd (h refl)
+no_name [] h en z = absurd (clash refl h)
 no_name (b ∷ s) h en z =
     let e : run alphanumeric s ≡ 0 = sym (name_is (b ∷ s) h en) ∙ z in
     rw (e, and_false (letter b))
 
-pub accession_is : (s : List ℕ) → (length s ≡ 0 → ⊥) → letter (get_or s 0 0) ≡ true
+pub accession_is : (s : List ℕ) → eqb (length s) 0 ≡ false → letter (get_or s 0 0) ≡ true
     → {n : ℕ} → n ≡ run alphanumeric (take (length s - 1) (drop 1 s)) → (n ≡ 0 → ⊥)
     → {b : ℕ} → b ≡ optional_length (ascii "_") (suffix_of (take (length s - (1 + n)) (drop (1 + n) s)))
     → {v : ℕ} → v ≡ optional_length (ascii ".") (version_of (take (length s - (1 + n + b)) (drop (1 + n + b) s)))
     → 1 + n + b + v ≡ accession_length (parse_accession s)
 unfolding parse_accession behind
-accession_is [] h l en nn eb ev = absurd (h refl)
+accession_is [] h l en nn eb ev = absurd (clash refl h)
 accession_is (x ∷ s) h l {n} en nn {b} eb {v} ev =
     let e : n ≡ run alphanumeric s = name_is (x ∷ s) h en in
     let k : 1 + n ≡ suc n = omega arith in

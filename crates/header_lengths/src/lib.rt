@@ -2,7 +2,6 @@
 #![tactic(auto)]
 
 ghost use Rattle.std.specs.Prelude.{◌≡◌};
-ghost use Rattle.alphabet.specs.Cells.{IsTable};
 ghost use Rattle.alphabet.specs.Classes.{member};
 ghost use Rattle.lang_headers.specs.Optionals.{parse_optional};
 ghost use Rattle.lang_headers.specs.Parse.{parse_accession};
@@ -11,39 +10,30 @@ ghost use Rattle.header_lengths.specs.Lengths.{optional_length, accession_length
 use alphabet::Class;
 
 // The bytes of a word with one or more bytes of a class behind it; 0 where they are not there.
-pub fn optional(table: &[u8; 256], s: &[u8], word: &[u8], class: Class) -> usize
-    requires { IsTable table.now }
+pub fn optional(s: &[u8], word: &[u8], class: Class) -> usize
     ensures { result ≡ optional_length word.now (parse_optional word.now (member class) s.now) }
 {
     if !words::begins(s, word) {
         return 0;
     }
-    let k = word.len();
-    let n = alphabet::run_of(table, class, &s[k..]);
-    if n == 0 {
-        return 0;
-    }
-    k + n
+    let n = alphabet::run_of(class, &s[word.len()..]);
+    if n == 0 { 0 } else { word.len() + n }
 }
 
 // The bytes of the accession; 0 where there is none.
-pub fn accession(table: &[u8; 256], s: &[u8]) -> usize
-    requires { IsTable table.now }
+pub fn accession(s: &[u8]) -> usize
     ensures { result ≡ accession_length (parse_accession s.now) }
 {
-    if s.len() == 0 {
+    if s.is_empty() || !alphabet::is_in(Class::Letter, s[0]) {
         return 0;
     }
-    if !alphabet::is_in(table, Class::Letter, s[0]) {
-        return 0;
-    }
-    let n = alphabet::run_of(table, Class::Alphanumeric, &s[1..]);
+    let n = alphabet::run_of(Class::Alphanumeric, &s[1..]);
     if n == 0 {
         return 0;
     }
     let name = 1 + n;
-    let suffix = optional(table, &s[name..], b"_", Class::Alphanumeric);
+    let suffix = optional(&s[name..], b"_", Class::Alphanumeric);
     let suffixed = name + suffix;
-    let version = optional(table, &s[suffixed..], b".", Class::Digit);
+    let version = optional(&s[suffixed..], b".", Class::Digit);
     suffixed + version
 }

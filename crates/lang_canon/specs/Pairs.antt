@@ -1,5 +1,5 @@
 -- Document 01, "Pairs at the edge": read, and written again.
-use Rattle.std.specs.Prelude.{ℕ, ◌≡◌, List, [], ◌∷◌, ◌++◌, Bool, true, false, pos}
+use Rattle.std.specs.Prelude.{ℕ, ◌≡◌, List, [], ◌∷◌, ◌++◌, Bool, true, false, pos, Some}
 use Prim.Native.String.{String}
 use Rattle.std.proofs.Math.Option.{none, some}
 use Rattle.texts.specs.Ascii.{ascii}
@@ -7,7 +7,6 @@ use Rattle.record.specs.declared.Kind.{Kind}
 use Rattle.record.specs.declared.Kind.TheVariants.{Cds, Genome, Mt, Tx, Prot, Rna}
 use Rattle.record.specs.declared.HgvsVariant.{HgvsVariant}
 use Rattle.grammar.specs.Texts.{all_letters}
-use Rattle.record.specs.declared.GenomePos.TheVariants.{At}
 use Rattle.record.specs.declared.UncertainLengthChange.TheVariants.{Known}
 use Rattle.grammar.specs.Shapes.{Mu.certain, Both.both}
 use Rattle.grammar.specs.Values.{BodyV, ProtPosV.prot_pos_v, NaEditV.ref_alt, ProteinEditV.ext_v, HeaderV.header_v, ProteinBodyV, ProteinBodyV.ordinary, ProteinBodyV.no_change_v, ProteinBodyV.no_change_uncertain_v, ProteinBodyV.no_protein_v, ProteinBodyV.no_protein_uncertain_v, ProteinBodyV.unknown_v, ProteinBodyV.initiation_uncertain, Value, Value.value}
@@ -92,7 +91,7 @@ made k b = value (header_v (ascii "AB_12.3") none) k b
 abbrev pub made_records : List Value
 made_records =
     made Prot (ordinary (both (certain (both (prot_pos_v (ascii "Gly") (pos 2)) (prot_pos_v (ascii "Gly") (pos 2)))) (certain (ext_v none (some (ascii "Met")) (Known (pos 5)))))) ∷
-    made Genome (both (certain (both (At (pos 1)) (At (pos 1)))) (certain (ref_alt (ascii "A") []))) ∷
+    made Genome (both (certain (both (Some (pos 1)) (Some (pos 1)))) (certain (ref_alt (ascii "A") []))) ∷
     []
 
 abbrev pub NoTexts : List Value → Type 0

@@ -1,5 +1,5 @@
 -- The position that canon gives is one of the value, its text is best among all positions of the value, and where it gives none there is none.
-use Rattle.std.specs.Prelude.{ℕ, zero, suc, ◌+◌, ◌≤◌, ◌≡◌, refl, List, [], ◌∷◌, ◌++◌, ℤ, pos, negsuc, length}
+use Rattle.std.specs.Prelude.{ℕ, zero, suc, ◌+◌, ◌≤◌, ◌≡◌, refl, List, [], ◌∷◌, ◌++◌, ℤ, pos, negsuc, length, None, Some}
 use Prim.Native.Char.{code}
 use Rattle.std.proofs.Common.{ap, ◌∙◌, append_assoc, arith, lit<, le-leb}
 use Rattle.std.proofs.Math.Option.{Option, none, some}
@@ -17,15 +17,11 @@ use Rattle.numerals.proofs.Written.{digits_written, unsigned_written, digits_fou
 use Rattle.residue.specs.Residues.{is_residue}
 use Rattle.record.specs.declared.Kind.{Kind}
 use Rattle.record.specs.declared.Kind.TheVariants.{Cds, Genome, Mt, Tx, Prot, Rna}
-use Rattle.record.specs.declared.Offset as Declared
-use Rattle.record.specs.declared.Offset.TheVariants.{Absent, By}
+use Rattle.record.specs.Named as Declared
 use Rattle.record.specs.declared.CdsFrom.{CdsFrom}
 use Rattle.record.specs.declared.CdsFrom.TheVariants.{Start, End}
 use Rattle.record.specs.declared.CdsPos.{CdsPos}
-use Rattle.record.specs.declared.GenomePos.TheVariants as G
-use Rattle.record.specs.declared.TxPos.{TxPos}
-use Rattle.record.specs.declared.RnaPos.{RnaPos}
-use Rattle.record.specs.declared.MtPos.TheVariants as M
+use Rattle.record.specs.Named.{TxPos, RnaPos}
 use Rattle.grammar.specs.Positions.{Mark, Mark.bare, Mark.plus, Mark.minus, Mark.star, OffsetTree, OffsetTree.absent, OffsetTree.ahead, OffsetTree.back, Based, Based.based, Genomic, Genomic.known, Genomic.unknown, Residual.residual, PositionTree, print_mark, print_offset, print_based, print_genomic, Digits, WfOffset, WfBased, Unstarred, WfUnstarred, WfGenomic, WfPosition}
 use Rattle.grammar.specs.Values.{ProtPosV.prot_pos_v, PositionV}
 use Rattle.grammar.specs.Meaning.{number, sign_of, from_of, offset_of, meaning_cds, meaning_genome, meaning_mt, meaning_position}
@@ -48,22 +44,22 @@ record OffsetRight (v : Declared.Offset) (o : OffsetTree) : Type 0 where
   means : offset_of o ≡ v
 
 offset_right : (v : Declared.Offset) (o : OffsetTree) → canon_offset v ≡ some o → OffsetRight v o
-offset_right Absent o e = let j : absent ≡ o = cc in rw (← j) (record { wf = tt; fit = λ k. none_faultless; means = refl })
-offset_right (By (pos v)) o e =
+offset_right None o e = let j : absent ≡ o = cc in rw (← j) (record { wf = tt; fit = λ k. none_faultless; means = refl })
+offset_right (Some (pos v)) o e =
     let h = map_some ahead (digits_of Unsigned v) o e in
     let w = digits_written Unsigned v h.0 h.1.0 in
-    rw (← h.1.1) (record { wf = w.digits; fit = λ k. written_faultless (k + 1) w; means = ap By w.value })
-offset_right (By (negsuc v)) o e =
+    rw (← h.1.1) (record { wf = w.digits; fit = λ k. written_faultless (k + 1) w; means = ap Some w.value })
+offset_right (Some (negsuc v)) o e =
     let h = map_some back (digits_of Minus (suc v)) o e in
     let w = digits_written Minus (suc v) h.0 h.1.0 in
-    rw (← h.1.1) (record { wf = w.digits; fit = λ k. written_faultless (k + 1) w; means = ap By w.value })
+    rw (← h.1.1) (record { wf = w.digits; fit = λ k. written_faultless (k + 1) w; means = ap Some w.value })
 
 record OffsetCovered (v : Declared.Offset) (u : OffsetTree) : Type 0 where
   tree : OffsetTree
   found : canon_offset v ≡ some tree
   best : Best (print_offset tree) (print_offset u)
 
-back_covers : (ds : List ℕ) (v : ℕ) → Digits ds → val ds ≡ v → v ≤ most Minus → OffsetCovered (By (signed Minus v)) (back ds)
+back_covers : (ds : List ℕ) (v : ℕ) → Digits ds → val ds ≡ v → v ≤ most Minus → OffsetCovered (Some (signed Minus v)) (back ds)
 back_covers ds zero w e h = record { tree = ahead (dec 0); found = refl; best = best_less (lit< tt) (dec_best w e) }
 back_covers ds (suc v) w e h = record { tree = back (dec (suc v)); found = rw (le-leb (suc v) (most Minus) h); best = best_behind (ascii "-") (dec_best w e) }
 
@@ -202,11 +198,11 @@ abbrev numbered : {A : Type 0} → A → (ℤ → A) → Option ℤ → A
 numbered hidden at none = hidden
 numbered hidden at (some z) = at z
 
-genome_means : (t : Genomic) → meaning_genome t ≡ numbered G.Unknown G.At (number_in t)
+genome_means : (t : Genomic) → meaning_genome t ≡ numbered None Some (number_in t)
 genome_means (known ds) = refl
 genome_means unknown = refl
 
-mt_means : (t : Genomic) → meaning_mt t ≡ numbered M.Unknown M.At (number_in t)
+mt_means : (t : Genomic) → meaning_mt t ≡ numbered None Some (number_in t)
 mt_means (known ds) = refl
 mt_means unknown = refl
 
@@ -216,18 +212,18 @@ RightPosition k = Right (pos_lang k) (meaning_position k) (FitsPosition k)
 abbrev CoveredPosition : (k : Kind) → PositionTree k → Type 0
 CoveredPosition k u = Covered (pos_lang k) (canon_position k) (meaning_position k u) u
 
-right_genome : (o : Option ℤ) (t : Genomic) → canon_genomic o ≡ some t → RightPosition Genome (numbered G.Unknown G.At o) t
-right_genome o t e = let r = genomic_right o t e in record { wf = r.wf; fits = r.fit; means = genome_means t ∙ ap (numbered G.Unknown G.At) r.means }
+right_genome : (o : Option ℤ) (t : Genomic) → canon_genomic o ≡ some t → RightPosition Genome (numbered None Some o) t
+right_genome o t e = let r = genomic_right o t e in record { wf = r.wf; fits = r.fit; means = genome_means t ∙ ap (numbered None Some) r.means }
 
-right_mt : (o : Option ℤ) (t : Genomic) → canon_genomic o ≡ some t → RightPosition Mt (numbered M.Unknown M.At o) t
-right_mt o t e = let r = genomic_right o t e in record { wf = r.wf; fits = r.fit; means = mt_means t ∙ ap (numbered M.Unknown M.At) r.means }
+right_mt : (o : Option ℤ) (t : Genomic) → canon_genomic o ≡ some t → RightPosition Mt (numbered None Some o) t
+right_mt o t e = let r = genomic_right o t e in record { wf = r.wf; fits = r.fit; means = mt_means t ∙ ap (numbered None Some) r.means }
 
 pub right_position : (k : Kind) (v : PositionV k) (t : PositionTree k) → canon_position k v ≡ some t → RightPosition k v t
 right_position Cds v t e = let r = based_right v.cds_from v.base v.offset t e in record { wf = r.wf; fits = r.fit; means = r.means }
-right_position Genome G.Unknown t e = right_genome none t e
-right_position Genome (G.At z) t e = right_genome (some z) t e
-right_position Mt M.Unknown t e = right_mt none t e
-right_position Mt (M.At z) t e = right_mt (some z) t e
+right_position Genome None t e = right_genome none t e
+right_position Genome (Some z) t e = right_genome (some z) t e
+right_position Mt None t e = right_mt none t e
+right_position Mt (Some z) t e = right_mt (some z) t e
 right_position Tx v (based m ds o) e =
     let r = unstarred_right {A = TxPos} (λ z x. record { base = z; offset = x }) v.base v.offset (based m ds o) e in
     record { wf = r.wf; fits = r.fit; means = r.means }

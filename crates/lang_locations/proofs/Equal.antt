@@ -1,5 +1,5 @@
 -- Whether two positions are one.
-use Rattle.std.specs.Prelude.{◌≡◌, refl, Bool, true, false, ◌&&◌, eqb, ℤ, pos, negsuc}
+use Rattle.std.specs.Prelude.{◌≡◌, refl, Bool, true, false, ◌&&◌, eqb, ℤ, pos, negsuc, None, Some}
 use Rattle.std.proofs.Common.{sym, ap, ◌∙◌, eqb-true, eq-eqb, SFits, to_z, of_z, to_z-of_z}
 use Rattle.std.specs.Int.{w32}
 use Rattle.texts.proofs.Tests.{and-true, true_and, clash, never}
@@ -7,13 +7,10 @@ use Rattle.texts.specs.Words.{same}
 use Rattle.texts.proofs.Words.{same_true, same_refl}
 use Rattle.record.specs.declared.Kind.{Kind}
 use Rattle.record.specs.declared.Kind.TheVariants.{Cds, Genome, Mt, Tx, Prot, Rna}
-use Rattle.record.specs.declared.Offset.{Offset}
-use Rattle.record.specs.declared.Offset.TheVariants.{Absent, By}
+use Rattle.record.specs.Named.{Offset}
 use Rattle.record.specs.declared.CdsFrom.{CdsFrom}
 use Rattle.record.specs.declared.CdsFrom.TheVariants.{Start, End}
 use Rattle.record.specs.declared.CdsPos.{CdsPos}
-use Rattle.record.specs.declared.GenomePos.TheVariants as G
-use Rattle.record.specs.declared.MtPos.TheVariants as M
 use Rattle.grammar.specs.Values.{ProtPosV.prot_pos_v, PositionV}
 use Rattle.lang_locations.specs.Equal.{eqℤ, eq_offset, eq_from, eq_position}
 
@@ -25,10 +22,10 @@ use Rattle.lang_locations.specs.Equal.{eqℤ, eq_offset, eq_from, eq_position}
 ℤ-true (negsuc v) (negsuc w) e = ap negsuc (eqb-true v w e)
 
 offset_true : (v w : Offset) → eq_offset v w ≡ true → v ≡ w
-offset_true Absent Absent e = refl
-offset_true Absent (By w) e = absurd (clash e refl)
-offset_true (By v) Absent e = absurd (clash e refl)
-offset_true (By v) (By w) e = ap By (ℤ-true v w e)
+offset_true None None e = refl
+offset_true None (Some w) e = absurd (clash e refl)
+offset_true (Some v) None e = absurd (clash e refl)
+offset_true (Some v) (Some w) e = ap Some (ℤ-true v w e)
 
 from_true : (v w : CdsFrom) → eq_from v w ≡ true → v ≡ w
 from_true Start Start e = refl
@@ -52,14 +49,14 @@ cds_true v w o u f g e =
 
 pub eq_true : (k : Kind) (v w : PositionV k) → eq_position k v w ≡ true → v ≡ w
 eq_true Cds v w e = cds_true v.base w.base v.offset w.offset v.cds_from w.cds_from e
-eq_true Genome G.Unknown G.Unknown e = refl
-eq_true Genome G.Unknown (G.At w) e = absurd (clash e refl)
-eq_true Genome (G.At v) G.Unknown e = absurd (clash e refl)
-eq_true Genome (G.At v) (G.At w) e = ap G.At (ℤ-true v w e)
-eq_true Mt M.Unknown M.Unknown e = refl
-eq_true Mt M.Unknown (M.At w) e = absurd (clash e refl)
-eq_true Mt (M.At v) M.Unknown e = absurd (clash e refl)
-eq_true Mt (M.At v) (M.At w) e = ap M.At (ℤ-true v w e)
+eq_true Genome None None e = refl
+eq_true Genome None (Some w) e = absurd (clash e refl)
+eq_true Genome (Some v) None e = absurd (clash e refl)
+eq_true Genome (Some v) (Some w) e = ap Some (ℤ-true v w e)
+eq_true Mt None None e = refl
+eq_true Mt None (Some w) e = absurd (clash e refl)
+eq_true Mt (Some v) None e = absurd (clash e refl)
+eq_true Mt (Some v) (Some w) e = ap Some (ℤ-true v w e)
 eq_true Tx v w e = based_true (λ z o. record { base = z; offset = o }) v.base w.base v.offset w.offset e
 eq_true Prot (prot_pos_v r v) (prot_pos_v s w) e =
     let h = and-true (same r s) (eqℤ v w) e in
@@ -74,8 +71,8 @@ eq_true Rna v w e = based_true (λ z o. record { base = z; offset = o }) v.base 
 ℤ-refl (negsuc v) = eq-eqb v v refl
 
 offset_refl : (v : Offset) → eq_offset v v ≡ true
-offset_refl Absent = refl
-offset_refl (By v) = ℤ-refl v
+offset_refl None = refl
+offset_refl (Some v) = ℤ-refl v
 
 from_refl : (v : CdsFrom) → eq_from v v ≡ true
 from_refl Start = refl
@@ -83,10 +80,10 @@ from_refl End = refl
 
 pub eq_refl : (k : Kind) (v : PositionV k) → eq_position k v v ≡ true
 eq_refl Cds v = true_and (ℤ-refl v.base) (true_and (offset_refl v.offset) (from_refl v.cds_from))
-eq_refl Genome G.Unknown = refl
-eq_refl Genome (G.At v) = ℤ-refl v
-eq_refl Mt M.Unknown = refl
-eq_refl Mt (M.At v) = ℤ-refl v
+eq_refl Genome None = refl
+eq_refl Genome (Some v) = ℤ-refl v
+eq_refl Mt None = refl
+eq_refl Mt (Some v) = ℤ-refl v
 eq_refl Tx v = true_and (ℤ-refl v.base) (offset_refl v.offset)
 eq_refl Prot (prot_pos_v r v) = true_and (same_refl r) (ℤ-refl v)
 eq_refl Rna v = true_and (ℤ-refl v.base) (offset_refl v.offset)

@@ -1,26 +1,23 @@
 -- The position whose text is to be written for a value, where there is one.
-use Rattle.std.specs.Prelude.{ℕ, suc, List, cond, ℤ, pos, negsuc}
+use Rattle.std.specs.Prelude.{ℕ, suc, List, cond, ℤ, pos, negsuc, None, Some}
 use Rattle.std.proofs.Math.Option.{Option, none, some}
 use Rattle.numerals.specs.declared.Sign.TheVariants.{Unsigned, Minus}
 use Rattle.numerals.specs.Written.{digits_of, unsigned_digits}
 use Rattle.residue.specs.Residues.{is_residue}
 use Rattle.record.specs.declared.Kind.{Kind}
 use Rattle.record.specs.declared.Kind.TheVariants.{Cds, Genome, Mt, Tx, Prot, Rna}
-use Rattle.record.specs.declared.Offset as Declared
-use Rattle.record.specs.declared.Offset.TheVariants.{Absent, By}
+use Rattle.record.specs.Named as Declared
 use Rattle.record.specs.declared.CdsFrom.{CdsFrom}
 use Rattle.record.specs.declared.CdsFrom.TheVariants.{Start, End}
-use Rattle.record.specs.declared.GenomePos.TheVariants as G
-use Rattle.record.specs.declared.MtPos.TheVariants as M
 use Rattle.grammar.specs.Positions.{Mark, Mark.bare, Mark.minus, Mark.star, OffsetTree, OffsetTree.absent, OffsetTree.ahead, OffsetTree.back, Based, Based.based, Genomic, Genomic.known, Genomic.unknown, Residual.residual, PositionTree}
 use Rattle.grammar.specs.Values.{ProtPosV.prot_pos_v, PositionV}
 use Rattle.lang.specs.Canon.{map_o, both_o}
 
 -- `+0` for an offset of 0
 abbrev pub canon_offset : Declared.Offset → Option OffsetTree
-canon_offset Absent = some absent
-canon_offset (By (pos v)) = map_o ahead (digits_of Unsigned v)
-canon_offset (By (negsuc v)) = map_o back (digits_of Minus (suc v))
+canon_offset None = some absent
+canon_offset (Some (pos v)) = map_o ahead (digits_of Unsigned v)
+canon_offset (Some (negsuc v)) = map_o back (digits_of Minus (suc v))
 
 abbrev pub marked : Mark → List ℕ → OffsetTree → Based
 marked m ds o = based m ds o
@@ -41,10 +38,10 @@ canon_genomic (some z) = map_o known (unsigned_digits z)
 
 abbrev pub canon_position : (k : Kind) → PositionV k → Option (PositionTree k)
 canon_position Cds v = canon_based v.cds_from v.base v.offset
-canon_position Genome G.Unknown = canon_genomic none
-canon_position Genome (G.At z) = canon_genomic (some z)
-canon_position Mt M.Unknown = canon_genomic none
-canon_position Mt (M.At z) = canon_genomic (some z)
+canon_position Genome None = canon_genomic none
+canon_position Genome (Some z) = canon_genomic (some z)
+canon_position Mt None = canon_genomic none
+canon_position Mt (Some z) = canon_genomic (some z)
 canon_position Tx v = canon_based Start v.base v.offset
 canon_position Prot (prot_pos_v r z) = cond (is_residue r) (map_o (residual r) (unsigned_digits z)) none
 canon_position Rna v = canon_based Start v.base v.offset

@@ -1,8 +1,6 @@
 -- The position that canon gives is one of the value, its text is best among all positions of the value, and where it gives none there is none.
 use Rattle.record.specs.declared.Kind.{Kind}
-use Rattle.record.specs.declared.Offset as Declared
-use Rattle.record.specs.declared.GenomePos.TheVariants as G
-use Rattle.record.specs.declared.MtPos.TheVariants as M
+use Rattle.record.specs.Named as Declared
 use Rattle.grammar.specs.Positions.{PositionTree}
 use Rattle.grammar.specs.Numbers.{Faultless, position_numbers}
 

@@ -3,27 +3,16 @@
 // functions whose contracts say all of it (`line_turns`), and `act` makes the calls.
 #![tactic(auto)]
 
-ghost use Rattle.std.specs.Prelude.{◌≡◌, ◌≤◌, pos, negsuc, length, MatchResult};
-ghost use Rattle.std.specs.Io.{ReadsAtMost};
+ghost use Rattle.std.specs.Prelude.{◌≤◌, length};
 ghost use Rattle.line_runs.specs.After.{Ready, Acted};
 ghost use Rattle.line_runs.specs.Runs.{Ran, RanFromZeros};
 
 use line_runs::Next;
-use std::io;
 use std::io::{Read, Write};
 
-// What a read into the room has given, as one number: below zero where it has failed.
-fn got(read: io::Result<usize>, input: &[u8]) -> isize
-    requires { ReadsAtMost read input.now }
-    ensures { MatchResult read (λ n. result ≡ pos n) (λ _. result ≡ negsuc 0) }
-{
-    match read {
-        Ok(n) => n as isize,
-        Err(_) => -1,
-    }
-}
-
 // One read, one step, one write or the last line's answer, and what comes next.
+// The three rooms are no struct: tried, and the proof of `act` didn't close where a part of a field is lent.
+#[tactic(auto, unfolding(line_runs::specs::After::Ready, line_runs::specs::After::Acted))]
 fn act<R: Read, W: Write>(
     next: Next,
     from: &mut R,
@@ -36,25 +25,15 @@ fn act<R: Read, W: Write>(
     ensures { Acted next input.old buffer.old out.old result input.new buffer.new out.new }
 {
     match next {
-        Next::Read(line) => {
-            let read = from.read(input);
-            line_turns::after_read(got(read, input), input, line)
-        }
+        Next::Read(line) => line_turns::after_read(from.read(input).ok(), input, line),
         Next::Step(rest) => {
-            let used = rest.used;
-            let piece = rest.piece;
-            let line = rest.line;
-            let s = line_steps::step(&input[used..piece], buffer, line, out);
+            let s = line_steps::step(&input[rest.used..rest.piece], buffer, rest.line, out);
             line_turns::after_step(s, rest)
         }
-        Next::Write(w) => {
-            let at = w.at;
-            let done = to.write_all(&out[..at]).is_ok();
-            line_turns::after_write(done, w)
-        }
+        Next::Write(w) => line_turns::after_write(to.write_all(&out[..w.at]).is_ok(), w),
         Next::Finish(line) => Next::WriteLast(line_steps::finish(buffer, line, out)),
         Next::WriteLast(at) => Next::Stop(to.write_all(&out[..at]).is_ok()),
-        Next::Stop(well) => Next::Stop(well),
+        Next::Stop(_) => next,
     }
 }
 
@@ -70,13 +49,11 @@ fn all<R: Read, W: Write>(
     ensures { Ran buffer.old result input.new buffer.new out.new }
 {
     let mut next = Next::Read(line_take::no_line());
-    let mut turns = u64::MAX;
-    while turns > 0 {
+    for _ in 0..u64::MAX {
         if let Next::Stop(well) = next {
             return well;
         }
         next = act(next, from, to, input, buffer, out);
-        turns -= 1;
     }
     false
 }

@@ -6,6 +6,7 @@ ghost use Rattle.lent.specs.Put.{put};
 ghost use Rattle.line_promise.specs.LineAnswers.{refusal};
 
 // Writes it at a place where there is room for it, and gives the place behind it.
+#[tactic(auto, using(crate::proofs::RefusalLength::refusal_length))]
 pub fn put_refusal(out: &mut [u8], at: usize, number: u32, place: u32) -> usize
     requires { at + length (refusal number place) ≤ length out.old }
     ensures { (result ≡ at + length (refusal number place)) × (out.new ≡ put out.old at (refusal number place)) }

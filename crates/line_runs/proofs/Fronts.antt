@@ -1,7 +1,7 @@
 -- Whatever reads and writes answer: where one fails, what writes have taken is a front of what is to be written for the pieces that were
 -- read, so that nothing is written twice; before each read it is all but the answer to the line that has no end yet; and where the program
 -- stops well it is the whole.
-use Rattle.std.specs.Prelude.{ℕ, zero, suc, ◌+◌, ◌≤◌, ◌≡◌, refl, Bool, ℤ, pos, negsuc, length, replicate}
+use Rattle.std.specs.Prelude.{ℕ, zero, suc, ◌+◌, ◌≤◌, ◌≡◌, refl, Bool, Option, Some, None, length, replicate}
 use Rattle.std.proofs.Math.Path.{sym, ap}
 use Rattle.std.proofs.Common.{◌∙◌, arith, length-take, take-append-drop, drop_of_length-le, take-take, take_at, le-leb}
 use Rattle.std.proofs.Math.Bool.{true, false}
@@ -37,10 +37,10 @@ put_taken out t = rw (put_front out t) (take_at t (drop (length t) out) (length 
 front_split : (n at : ℕ) (out : List ℕ) → n ≤ at → take n out ++ drop n (take at out) ≡ take at out
 front_split n at out h = ap (λ (x : List ℕ). x ++ drop n (take at out)) (sym (take-take n at out h)) ∙ take-append-drop n (take at out)
 
-none_left : (piece used : ℕ) (input : List ℕ) → piece ≤ used → drop used (take piece input) ≡ []
-none_left piece used input h =
-    let within : length (take piece input) ≤ used = rw length-take (omega arith) in
-    drop_of_length-le (take piece input) within
+none_left : (rest : Rest) (input : List ℕ) → rest.piece ≤ rest.used → left_of rest input ≡ []
+none_left rest input h =
+    let within : length (take rest.piece input) ≤ rest.used = rw length-take (omega arith) in
+    drop_of_length-le (take rest.piece input) within
 
 abbrev Goes : ℕ → List ℕ → Line → List (List ℕ) → List ℕ → Type 0
 Goes room = WritesLines line_answer (room_for most_bytes room)
@@ -58,27 +58,27 @@ module _ (buffer₀ : List ℕ) where
   Owes (Read line) input buffer out pieces taken = (most_bytes ≤ length out) × Before (length out) buffer line (λ more. more) pieces taken
   Owes (Step rest) input buffer out pieces taken = (most_bytes ≤ length out) × Before (length out) buffer rest.line (λ more. left_of rest input ∷ more) pieces taken
   Owes (Write w) input buffer out pieces taken =
-      (most_bytes ≤ length out) × Before (length out) buffer w.line (λ more. drop w.used (take w.piece input) ∷ more) pieces (taken ++ take w.at out)
+      (most_bytes ≤ length out) × Before (length out) buffer w.rest.line (λ more. left_of w.rest input ∷ more) pieces (taken ++ take w.at out)
   Owes (Finish line) input buffer out pieces taken = (room : ℕ) × Goes room buffer₀ no_line pieces (taken ++ last_answer buffer line)
   Owes (WriteLast at) input buffer out pieces taken = (room : ℕ) × Goes room buffer₀ no_line pieces (taken ++ take at out)
   Owes (Stop true) input buffer out pieces taken = (room : ℕ) × Goes room buffer₀ no_line pieces taken
   Owes (Stop false) input buffer out pieces taken = (room : ℕ) × (rest : List ℕ) × Goes room buffer₀ no_line pieces (taken ++ rest)
 
-  piece_owes : (input buffer out : List ℕ) (pieces : List (List ℕ)) (taken : List ℕ) (piece used : ℕ) (line : Line) → most_bytes ≤ length out
-      → Before (length out) buffer line (λ more. drop used (take piece input) ∷ more) pieces taken → Owes (go_on piece used line) input buffer out pieces taken
+  piece_owes : (input buffer out : List ℕ) (pieces : List (List ℕ)) (taken : List ℕ) (rest : Rest) → most_bytes ≤ length out
+      → Before (length out) buffer rest.line (λ more. left_of rest input ∷ more) pieces taken → Owes (go_on rest) input buffer out pieces taken
   unfolding Owes
-  piece_owes input buffer out pieces taken piece used line h f =
-      goes_on (λ r. Owes r input buffer out pieces taken) piece used line (λ k. (h, λ more t g. f more t (rw (none_left piece used input k) (WritesLines.reads g)))) (λ k. (h, f))
+  piece_owes input buffer out pieces taken rest h f =
+      goes_on (λ r. Owes r input buffer out pieces taken) rest (λ k. (h, λ more t g. f more t (rw (none_left rest input k) (WritesLines.reads g)))) (λ k. (h, f))
 
   module _ (input buffer out : List ℕ) (pieces : List (List ℕ)) (taken : List ℕ) where
-    read_owes : (got : ℤ) (line : Line) → most_bytes ≤ length out → Before (length out) buffer line (λ more. more) pieces taken
+    read_owes : (got : Option ℕ) (line : Line) → most_bytes ≤ length out → Before (length out) buffer line (λ more. more) pieces taken
         → Owes (after_read got (length input) line) input buffer out (pieces ++ (piece_of got input ∷ [])) taken
     unfolding Owes after_read piece_of
-    read_owes (negsuc k) line h f = (length out, last_answer buffer line, f ([] ∷ []) (last_answer buffer line) (WritesLines.reads ends))
-    read_owes (pos zero) line h f = (length out, rw (zero-min (length input)) (f ([] ∷ []) (last_answer buffer line) (WritesLines.reads ends)))
-    read_owes (pos (suc k)) line h f =
-        piece_owes input buffer out (pieces ++ (piece_of (pos (suc k)) input ∷ [])) taken (clamp_len (pos (suc k)) (length input)) 0 line h
-        (λ more t g. rw (append_snoc pieces (piece_of (pos (suc k)) input) more) (f (piece_of (pos (suc k)) input ∷ more) t g))
+    read_owes None line h f = (length out, last_answer buffer line, f ([] ∷ []) (last_answer buffer line) (WritesLines.reads ends))
+    read_owes (Some zero) line h f = (length out, rw (zero-min (length input)) (f ([] ∷ []) (last_answer buffer line) (WritesLines.reads ends)))
+    read_owes (Some (suc k)) line h f =
+        piece_owes input buffer out (pieces ++ (piece_of (Some (suc k)) input ∷ [])) taken (record { piece = clamp_len (Some (suc k)) (length input); used = 0; line = line }) h
+        (λ more t g. rw (append_snoc pieces (piece_of (Some (suc k)) input) more) (f (piece_of (Some (suc k)) input ∷ more) t g))
 
     step_owes : (rest : Rest) (s : Progress) {buffer' out' : List ℕ} → Stepped line_answer most_bytes (left_of rest input) buffer rest.line out s buffer' out'
         → Owes (Step rest) input buffer out pieces taken → Owes (after_step s rest) input buffer' out' pieces taken
@@ -96,11 +96,11 @@ module _ (buffer₀ : List ℕ) where
     write_owes : (w : Waiting) (done : Bool) (n : ℕ) → Took done w.at n → Owes (Write w) input buffer out pieces taken
         → Owes (after_write done w) input buffer out pieces (taken ++ take n out)
     unfolding Owes after_write
-    write_owes w true n e f = rw e (piece_owes input buffer out pieces (taken ++ take w.at out) w.piece w.used w.line f.0 f.1)
+    write_owes w true n e f = rw e (piece_owes input buffer out pieces (taken ++ take w.at out) w.rest f.0 f.1)
     write_owes w false n h f =
-        let rest = drop w.used (take w.piece input) ∷ [] in
-        let t = written line_answer buffer w.line rest in
-        let g = f.1 [] t (goes_some (length out) f.0 buffer w.line rest) in
+        let rest = left_of w.rest input ∷ [] in
+        let t = written line_answer buffer w.rest.line rest in
+        let g = f.1 [] t (goes_some (length out) f.0 buffer w.rest.line rest) in
         let a = take n out in
         let b = drop n (take w.at out) in
         let e : taken ++ take w.at out ++ t ≡ taken ++ a ++ (b ++ t) =
@@ -128,9 +128,9 @@ module _ (buffer₀ : List ℕ) where
         let t = written line_answer buffer rest.line left in
         (length out, t, rw append-nil at (f.1 [] t (goes_some (length out) f.0 buffer rest.line left)))
     owes_front (Write w) f =
-        let left = drop w.used (take w.piece input) ∷ [] in
-        let t = written line_answer buffer w.line left in
-        (length out, take w.at out ++ t, rw (append-nil, append_assoc taken (take w.at out) t) at (f.1 [] t (goes_some (length out) f.0 buffer w.line left)))
+        let left = left_of w.rest input ∷ [] in
+        let t = written line_answer buffer w.rest.line left in
+        (length out, take w.at out ++ t, rw (append-nil, append_assoc taken (take w.at out) t) at (f.1 [] t (goes_some (length out) f.0 buffer w.rest.line left)))
     owes_front (Finish line) f = (f.0, last_answer buffer line, f.1)
     owes_front (WriteLast at) f = (f.0, take at out, f.1)
     owes_front (Stop true) f = (f.0, [], rw append-nil f.1)

@@ -1,5 +1,5 @@
 -- Runs of the line program, whatever its reads and writes answer.
-use Rattle.std.specs.Prelude.{ℕ, ◌+◌, ◌-◌, ◌^◌, ◌≤◌, ◌≡◌, Bool, true, false, List, [], ◌∷◌, ◌++◌, ℤ, length, take, replicate}
+use Rattle.std.specs.Prelude.{ℕ, ◌+◌, ◌-◌, ◌^◌, ◌≤◌, ◌≡◌, Bool, true, false, Option, List, [], ◌∷◌, ◌++◌, length, take, replicate}
 use Rattle.lent.specs.Put.{put}
 use Rattle.promise.specs.Outcome.{limit}
 use Rattle.lines.specs.declared.Line.{Line}
@@ -23,7 +23,7 @@ Took false n taken = taken ≤ n
 pub data Run (buffer₀ : List ℕ) : ℕ → Next → List ℕ → List ℕ → List ℕ → List (List ℕ) → List ℕ → Type 0 where
   begins : {input out : List ℕ} → most_bytes ≤ length out → Run buffer₀ 0 (Read no_line) input buffer₀ out [] []
   reading : {turns : ℕ} {line : Line} {input buffer out taken : List ℕ} {pieces : List (List ℕ)} → Run buffer₀ turns (Read line) input buffer out pieces taken
-      → (got : ℤ) (input' : List ℕ) → Run buffer₀ (turns + 1) (after_read got (length input') line) input' buffer out (pieces ++ (piece_of got input' ∷ [])) taken
+      → (got : Option ℕ) (input' : List ℕ) → Run buffer₀ (turns + 1) (after_read got (length input') line) input' buffer out (pieces ++ (piece_of got input' ∷ [])) taken
   stepping : {turns : ℕ} {rest : Rest} {input buffer out taken : List ℕ} {pieces : List (List ℕ)} → Run buffer₀ turns (Step rest) input buffer out pieces taken
       → (s : Progress) {buffer' out' : List ℕ} → Stepped line_answer most_bytes (left_of rest input) buffer rest.line out s buffer' out'
       → Run buffer₀ (turns + 1) (after_step s rest) input buffer' out' pieces taken

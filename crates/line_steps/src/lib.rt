@@ -17,12 +17,12 @@ use lines::{Line, Progress};
 const MOST: usize = 4097;
 
 // The answer to the line that the buffer holds, and LF.
+// That the line lies in its buffer stands in each contract and in no type, since the arguments of `step` and `finish` are fixed (docs/DECISIONS.md).
 fn put_line(buffer: &[u8], line: Line, out: &mut [u8], at: usize) -> usize
     requires { (line.len ≤ length buffer.now) × (at + 4097 ≤ length out.old) }
     ensures { (result ≡ at + length (line_answer (held_in buffer.now line) ++ (line_end ∷ []))) × (out.new ≡ put out.old at (line_answer (held_in buffer.now line) ++ (line_end ∷ []))) }
 {
-    let len = line.len;
-    line_answer::answer(&buffer[..len], line.long, out, at)
+    line_answer::answer(&buffer[..line.len], line.long, out, at)
 }
 
 // One line of the piece, or as much of one as there is.
@@ -31,49 +31,39 @@ fn turn(piece: &[u8], buffer: &mut [u8], line: Line, out: &mut [u8], at: usize) 
     ensures { (result ≡ went_to line_answer buffer.old line piece.now at) × (out.new ≡ put out.old at (said line_answer buffer.old line piece.now)) × (buffer.new ≡ stored buffer.old line piece.now) }
 {
     let t = line_take::take(piece, buffer, line);
-    let next = t.line;
-    if !t.complete {
-        return Progress {
+    if t.complete {
+        Progress {
             used: t.used,
-            line: next,
+            line: line_take::no_line(),
+            at: put_line(buffer, t.line, out, at),
+        }
+    } else {
+        Progress {
+            used: t.used,
+            line: t.line,
             at,
-        };
-    }
-    let behind = put_line(buffer, next, out, at);
-    Progress {
-        used: t.used,
-        line: line_take::no_line(),
-        at: behind,
+        }
     }
 }
 
-// Lines of the piece, while there is room for an answer more.
+// Lines of the piece, while there is room for an answer more. A turn uses as many bytes as its line has, so the loop is no `for`.
 pub fn step(piece: &[u8], buffer: &mut [u8], line: Line, out: &mut [u8]) -> Progress
     requires { line.len ≤ length buffer.old }
     ensures { Stepped line_answer most_bytes piece.now buffer.old line out.old result buffer.new out.new }
 {
-    let mut used: usize = 0;
-    let mut at: usize = 0;
-    let mut state = line;
-    while used < piece.len() {
-        if out.len() - at < MOST {
-            return Progress {
-                used,
-                line: state,
-                at,
-            };
-        }
-        let t = turn(&piece[used..], buffer, state, out, at);
-        used += t.used;
-        at = t.at;
-        let next = t.line;
-        state = next;
+    let mut so_far = Progress {
+        used: 0,
+        line,
+        at: 0,
+    };
+    while so_far.used < piece.len() && MOST <= out.len() - so_far.at {
+        let t = turn(&piece[so_far.used..], buffer, so_far.line, out, so_far.at);
+        so_far = Progress {
+            used: so_far.used + t.used,
+            ..t
+        };
     }
-    Progress {
-        used,
-        line: state,
-        at,
-    }
+    so_far
 }
 
 // At the end of the input: the answer to a last line without LF, where it has a byte.
@@ -82,7 +72,8 @@ pub fn finish(buffer: &[u8], line: Line, out: &mut [u8]) -> usize
     ensures { (result ≡ length (finished (writes line_answer) (clear buffer.now line))) × (out.new ≡ put out.old 0 (finished (writes line_answer) (clear buffer.now line))) }
 {
     if line_take::at_end(line) {
-        return put_line(buffer, line, out, 0);
+        put_line(buffer, line, out, 0)
+    } else {
+        0
     }
-    0
 }

@@ -3,9 +3,8 @@
 
 use compare_lines::columns;
 use record::{
-    Body, GenomeInterval, GenomeLocEdit, GenomePos, Header, HgvsVariant, MuGenomeInterval,
-    MuNaEdit, MuProtInterval, MuProteinEdit, NaEdit, Part, ProtInterval, ProtLocEdit, ProtPos,
-    ProteinEdit, Span, UncertainLengthChange,
+    Body, Header, HgvsVariant, Interval, LocEdit, MuGenomeInterval, MuNaEdit, MuProtInterval,
+    MuProteinEdit, NaEdit, Part, ProtLocEdit, ProtPos, ProteinEdit, Span, UncertainLengthChange,
 };
 use std::io::Write;
 
@@ -31,100 +30,27 @@ const BACKWARDS: Span = Span { start: 17, end: 16 };
 
 const OUTSIDE: Span = Span { start: 20, end: 22 };
 
-// ---- records: the first eight of g, the others of p
-
-const NUCLEOTIDES: u8 = 8;
-
-const ALL: u8 = 20;
-
-fn na_edit(i: u8) -> NaEdit {
-    match i {
-        0 => NaEdit::RefAlt(LETTER, NOTHING),
-        1 => NaEdit::RefAlt(LETTER, LETTER),
-        2 => NaEdit::DelNum(-1),
-        3 => NaEdit::NumAlt(3, LETTER),
-        4 => NaEdit::Ins(NOTHING),
-        5 => NaEdit::Dup(GLY),
-        6 => NaEdit::DelRef(BACKWARDS),
-        _ => NaEdit::DelRef(OUTSIDE),
-    }
-}
-
-fn residue(i: u8) -> ProtPos {
-    match i {
-        8 => ProtPos { aa: MET, number: 1 },
-        9 => ProtPos {
-            aa: GLY,
-            number: -1,
-        },
-        12 => ProtPos {
-            aa: NOTHING,
-            number: 2,
-        },
-        _ => ProtPos { aa: GLY, number: 2 },
-    }
-}
-
-fn extension(i: u8) -> Part {
-    match i {
-        15 => Part::Present(TER),
-        17 | 19 => Part::Absent,
-        18 => Part::Present(NOTHING),
-        _ => Part::Present(MET),
-    }
-}
-
-fn change(i: u8) -> UncertainLengthChange {
-    match i {
-        13 | 17 => UncertainLengthChange::Known(5),
-        14 => UncertainLengthChange::Known(-5),
-        18 => UncertainLengthChange::None,
-        19 => UncertainLengthChange::Known(-2147483648),
-        _ => UncertainLengthChange::Known(0),
-    }
-}
-
-fn protein_edit(i: u8) -> ProteinEdit {
-    match i {
-        8 => ProteinEdit::Subst(QUESTION),
-        9 | 12 => ProteinEdit::Subst(MET),
-        10 => ProteinEdit::Subst(NOTHING),
-        11 => ProteinEdit::Subst(MIXED),
-        _ => ProteinEdit::Ext(Part::Absent, extension(i), change(i)),
-    }
-}
+// ---- records of g, and of p
 
 fn genome(edit: NaEdit) -> Body {
-    let loc = MuGenomeInterval::Certain(GenomeInterval {
-        start: GenomePos::At(5),
-        end: GenomePos::At(7),
+    let loc = MuGenomeInterval::Certain(Interval {
+        start: Some(5),
+        end: Some(7),
     });
-    Body::Genome(GenomeLocEdit {
+    Body::Genome(LocEdit {
         loc,
         edit: MuNaEdit::Uncertain(edit),
     })
 }
 
-fn protein(at: ProtPos, edit: ProteinEdit) -> Body {
-    let loc = MuProtInterval::Certain(ProtInterval { start: at, end: at });
+fn protein(aa: Span, number: i32, edit: ProteinEdit) -> Body {
+    let at = ProtPos { aa, number };
+    let loc = MuProtInterval::Certain(Interval { start: at, end: at });
     Body::Prot(ProtLocEdit::Ordinary(loc, MuProteinEdit::Certain(edit)))
 }
 
-fn body(i: u8) -> Body {
-    if i < NUCLEOTIDES {
-        return genome(na_edit(i));
-    }
-    protein(residue(i), protein_edit(i))
-}
-
-fn made(i: u8) -> HgvsVariant {
-    HgvsVariant {
-        header: Header {
-            accession: ACCESSION,
-            gene_symbol: Part::Absent,
-        },
-        body: body(i),
-    }
+fn extension(end: Part, change: UncertainLengthChange) -> Body {
+    protein(GLY, 2, ProteinEdit::Ext(None, end, change))
 }
 
 // ---- lines
@@ -138,7 +64,33 @@ fn line<W: Write>(to: &mut W, source: &[u8], v: HgvsVariant) {
 
 fn main(rt: HostRuntime) {
     let source = b"AB_12.3GlyMetArgA?Ter";
-    for i in 0..ALL {
-        line(&mut rt.stdout(), source, made(i));
+    let bodies = [
+        genome(NaEdit::RefAlt(LETTER, NOTHING)),
+        genome(NaEdit::RefAlt(LETTER, LETTER)),
+        genome(NaEdit::DelNum(-1)),
+        genome(NaEdit::NumAlt(3, LETTER)),
+        genome(NaEdit::Ins(NOTHING)),
+        genome(NaEdit::Dup(GLY)),
+        genome(NaEdit::DelRef(BACKWARDS)),
+        genome(NaEdit::DelRef(OUTSIDE)),
+        protein(MET, 1, ProteinEdit::Subst(QUESTION)),
+        protein(GLY, -1, ProteinEdit::Subst(MET)),
+        protein(GLY, 2, ProteinEdit::Subst(NOTHING)),
+        protein(GLY, 2, ProteinEdit::Subst(MIXED)),
+        protein(NOTHING, 2, ProteinEdit::Subst(MET)),
+        extension(Some(MET), UncertainLengthChange::Known(5)),
+        extension(Some(MET), UncertainLengthChange::Known(-5)),
+        extension(Some(TER), UncertainLengthChange::Known(0)),
+        extension(Some(MET), UncertainLengthChange::Known(0)),
+        extension(None, UncertainLengthChange::Known(5)),
+        extension(Some(NOTHING), UncertainLengthChange::None),
+        extension(None, UncertainLengthChange::Known(i32::MIN)),
+    ];
+    for body in bodies {
+        let header = Header {
+            accession: ACCESSION,
+            gene_symbol: None,
+        };
+        line(&mut rt.stdout(), source, HgvsVariant { header, body });
     }
 }

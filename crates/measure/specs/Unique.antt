@@ -1,6 +1,6 @@
 -- Measuring a record has one answer.
 use Rattle.std.specs.Prelude.{ℕ, ◌≡◌, List}
-use Rattle.record.specs.declared.WidthAnswer.{WidthAnswer}
+use Rattle.record.specs.Named.{WidthAnswer}
 use Rattle.record.specs.declared.HgvsVariant.{HgvsVariant}
 use Rattle.grammar.specs.Texts.{all_letters}
 use Rattle.promise.specs.Outcome.{width_outcome}

@@ -8,10 +8,9 @@ ghost use Rattle.promise.specs.Width.{Measures};
 use record::{HgvsVariant, WidthAnswer};
 
 // The width of the record's location, or the refusal's number.
+#[tactic(auto, using(measure_any::specs::AnyMeasures::any_measures))]
 pub fn width(source: &[u8], v: HgvsVariant) -> WidthAnswer
     ensures { Measures all_letters source.now v (width_outcome result) }
 {
-    let header = v.header;
-    let body = v.body;
-    measure_any::width_any(source, header, any_body::any_body(body))
+    measure_any::width_any(source, v.header, v.body.into())
 }

@@ -8,18 +8,11 @@ ghost use Rattle.measure_body.specs.Widths.{any_width};
 ghost use Rattle.measure_any.specs.PlanMeasured.{plan_measured};
 
 use any_body::AnyBody;
-use measure_location::LocationWidth;
-use plan_text::TextPlan;
 use record::{Header, Refusal, WidthAnswer, Wording};
 
 pub fn width_any(source: &[u8], header: Header, b: AnyBody) -> WidthAnswer
     ensures { result ≡ plan_measured (record_plan source.now Shortest header b) (any_width b) }
 {
-    if let TextPlan::Refused(why) = plan_record::plan_record(source, Wording::Shortest, header, b) {
-        return WidthAnswer::Refused(why);
-    }
-    match measure_body::body_width(b) {
-        LocationWidth::NoWidth => WidthAnswer::Refused(Refusal::NoWidth),
-        LocationWidth::Width(n) => WidthAnswer::Width(n),
-    }
+    plan_record::plan_record(source, Wording::Shortest, header, b)?;
+    measure_body::body_width(b).ok_or(Refusal::NoWidth)
 }

@@ -1,15 +1,12 @@
 -- The width of a record's location is that of its location of any kind.
-use Rattle.std.specs.Prelude.{ℕ, ◌≡◌, refl}
+use Rattle.std.specs.Prelude.{ℕ, ◌≡◌, refl, None, Some}
 use Rattle.std.proofs.Common.{ap, ◌∙◌}
 use Rattle.std.proofs.Math.Option.{Option}
 use Rattle.record.specs.declared.Kind.{Kind}
 use Rattle.record.specs.declared.Kind.TheVariants.{Cds, Genome, Mt, Tx, Prot, Rna}
 use Rattle.record.specs.declared.Body.{Body}
 use Rattle.record.specs.declared.Body.TheVariants as Bo
-use Rattle.record.specs.declared.GenomePos.{GenomePos}
-use Rattle.record.specs.declared.GenomePos.TheVariants as G
-use Rattle.record.specs.declared.MtPos.{MtPos}
-use Rattle.record.specs.declared.MtPos.TheVariants as M
+use Rattle.record.specs.Named.{GenomePos, MtPos}
 use Rattle.record.specs.declared.MuCdsInterval.TheVariants as MuCds
 use Rattle.record.specs.declared.MuGenomeInterval.TheVariants as MuGenome
 use Rattle.record.specs.declared.MuMtInterval.TheVariants as MuMt
@@ -34,16 +31,16 @@ kind_width Prot l = mu_prot_width l
 kind_width Rna l = mu_rna_width l
 
 genome_width : (a b : GenomePos) → width_from_to Genome (any_position Genome a) (any_position Genome b) ≡ between (genome_number a) (genome_number b)
-genome_width G.Unknown G.Unknown = refl
-genome_width G.Unknown (G.At n) = refl
-genome_width (G.At m) G.Unknown = refl
-genome_width (G.At m) (G.At n) = refl
+genome_width None None = refl
+genome_width None (Some n) = refl
+genome_width (Some m) None = refl
+genome_width (Some m) (Some n) = refl
 
 mt_width : (a b : MtPos) → width_from_to Mt (any_position Mt a) (any_position Mt b) ≡ between (mt_number a) (mt_number b)
-mt_width M.Unknown M.Unknown = refl
-mt_width M.Unknown (M.At n) = refl
-mt_width (M.At m) M.Unknown = refl
-mt_width (M.At m) (M.At n) = refl
+mt_width None None = refl
+mt_width None (Some n) = refl
+mt_width (Some m) None = refl
+mt_width (Some m) (Some n) = refl
 
 any_width_lem : (k : Kind) (l : MuIntervalR k) → location_width k (any_location k l) ≡ kind_width k l
 any_width_lem Cds (MuCds.Certain i) = refl

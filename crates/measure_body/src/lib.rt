@@ -1,4 +1,4 @@
-// The width of a body's location: document 01, "Width".
+// The width of a body's location.
 #![tactic(auto)]
 
 ghost use Rattle.std.specs.Prelude.{◌≡◌};
@@ -7,27 +7,23 @@ ghost use Rattle.measure_location.specs.LocationWidths.{width_given};
 ghost use Rattle.measure_body.specs.Widths.{any_width};
 
 use any_body::AnyBody;
-use measure_location::LocationWidth;
 use record::{Kind, ProtLocEdit};
 
-fn prot_width(p: ProtLocEdit) -> LocationWidth
+fn prot_width(p: ProtLocEdit) -> Option<u64>
     ensures { width_given result ≡ prot_width p }
 {
     match p {
-        ProtLocEdit::Ordinary(loc, _) => measure_location::location_width(
-            Kind::Prot,
-            any_of_record::of_prot(loc),
-        ),
-        ProtLocEdit::NoChange => LocationWidth::NoWidth,
-        ProtLocEdit::NoChangeUncertain => LocationWidth::NoWidth,
-        ProtLocEdit::NoProtein => LocationWidth::NoWidth,
-        ProtLocEdit::NoProteinUncertain => LocationWidth::NoWidth,
-        ProtLocEdit::Unknown => LocationWidth::NoWidth,
-        ProtLocEdit::InitiationUncertain => LocationWidth::NoWidth,
+        ProtLocEdit::Ordinary(loc, _) => measure_location::location_width(Kind::Prot, loc.into()),
+        ProtLocEdit::NoChange
+        | ProtLocEdit::NoChangeUncertain
+        | ProtLocEdit::NoProtein
+        | ProtLocEdit::NoProteinUncertain
+        | ProtLocEdit::Unknown
+        | ProtLocEdit::InitiationUncertain => None,
     }
 }
 
-pub fn body_width(b: AnyBody) -> LocationWidth
+pub fn body_width(b: AnyBody) -> Option<u64>
     ensures { width_given result ≡ any_width b }
 {
     match b {

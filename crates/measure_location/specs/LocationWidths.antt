@@ -1,5 +1,5 @@
 -- The width of a location of any kind.
-use Rattle.std.specs.Prelude.{ℕ, ◌≡◌, refl, Bool, true, false, cond, ℤ}
+use Rattle.std.specs.Prelude.{ℕ, ◌≡◌, refl, Bool, true, false, cond, ℤ, None, Some}
 use Rattle.std.proofs.Common.{sym, ap}
 use Rattle.std.proofs.Math.Option.{Option, none, some}
 use Rattle.texts.proofs.Tests.{none_some}
@@ -8,25 +8,22 @@ use Rattle.record.specs.declared.Kind.TheVariants.{Cds, Genome, Mt, Tx, Prot, Rn
 use Rattle.promise.specs.Width.{between, base_index, unshifted, anchored}
 use Rattle.any_location.specs.declared.Position.{Position}
 use Rattle.any_location.specs.declared.Location.{Location}
-use Rattle.measure_location.specs.declared.LocationWidth.{LocationWidth}
-use Rattle.measure_location.specs.declared.LocationWidth.TheVariants.{NoWidth, Width}
-use Rattle.measure_location.specs.declared.EndIndex.{EndIndex}
-use Rattle.measure_location.specs.declared.EndIndex.TheVariants.{NoIndex, Index}
+use Rattle.measure_location.specs.Named.{LocationWidth, EndIndex}
 
 abbrev pub width_given : LocationWidth → Option ℕ
-width_given NoWidth = none
-width_given (Width n) = some n
+width_given None = none
+width_given (Some n) = some n
 
 -- so that what is given determines the answer
 pub one_width : (a b : LocationWidth) → width_given a ≡ width_given b → a ≡ b
-one_width NoWidth NoWidth e = refl
-one_width NoWidth (Width n) e = absurd (none_some e)
-one_width (Width m) NoWidth e = absurd (none_some (sym e))
-one_width (Width m) (Width n) e = let i : m ≡ n = cc in ap Width i
+one_width None None e = refl
+one_width None (Some n) e = absurd (none_some e)
+one_width (Some m) None e = absurd (none_some (sym e))
+one_width (Some m) (Some n) e = let i : m ≡ n = cc in ap Some i
 
 abbrev pub index_given : EndIndex → Option ℤ
-index_given NoIndex = none
-index_given (Index z) = some z
+index_given None = none
+index_given (Some z) = some z
 
 -- the kinds whose ends are bases, of which none is zero
 abbrev pub has_bases : Kind → Bool

@@ -7,7 +7,7 @@ ghost use Rattle.numbered.specs.Numbered.{bare_answer, refusal_numbers, numbered
 
 use record::{Refusal, WidthAnswer, WriteAnswer};
 
-// Document 01's number, 0 where the text was accepted; the place; and the length or width, 0 where it was refused.
+// The refusal's number, 0 where the text was accepted; the place; and the length or width, 0 where it was refused.
 #[repr(C)]
 #[derive(Clone, Copy)]
 pub struct Answer {
@@ -27,18 +27,20 @@ pub fn bare(number: u64, place: u64) -> Answer
     }
 }
 
-pub fn of_refusal(r: Refusal) -> Answer
-    ensures { result ≡ refusal_numbers r }
-{
-    match r {
-        Refusal::TooLong => bare(1, 0),
-        Refusal::NotInGrammar => bare(2, 0),
-        Refusal::DoesNotFit(place) => bare(3, place as u64),
-        Refusal::BadSpan => bare(4, 0),
-        Refusal::NoText => bare(5, 0),
-        Refusal::NoRoom => bare(6, 0),
-        Refusal::NoWidth => bare(7, 0),
-        Refusal::BadLine => bare(8, 0),
+impl From<Refusal> for Answer {
+    ghost from_gives = { λ r a. a ≡ refusal_numbers r };
+
+    fn from(r: Refusal) -> Answer {
+        match r {
+            Refusal::TooLong => bare(1, 0),
+            Refusal::NotInGrammar => bare(2, 0),
+            Refusal::DoesNotFit(place) => bare(3, place as u64),
+            Refusal::BadSpan => bare(4, 0),
+            Refusal::NoText => bare(5, 0),
+            Refusal::NoRoom => bare(6, 0),
+            Refusal::NoWidth => bare(7, 0),
+            Refusal::BadLine => bare(8, 0),
+        }
     }
 }
 
@@ -53,20 +55,24 @@ fn of_value(value: u64) -> Answer
     }
 }
 
-pub fn of_write(a: WriteAnswer) -> Answer
-    ensures { result ≡ numbered (write_outcome a) }
-{
-    match a {
-        WriteAnswer::Written(n) => of_value(n as u64),
-        WriteAnswer::Refused(r) => of_refusal(r),
+impl From<WriteAnswer> for Answer {
+    ghost from_gives = { λ w a. a ≡ numbered (write_outcome w) };
+
+    fn from(w: WriteAnswer) -> Answer {
+        match w {
+            Ok(n) => of_value(n as u64),
+            Err(r) => r.into(),
+        }
     }
 }
 
-pub fn of_width(a: WidthAnswer) -> Answer
-    ensures { result ≡ numbered (width_outcome a) }
-{
-    match a {
-        WidthAnswer::Width(n) => of_value(n),
-        WidthAnswer::Refused(r) => of_refusal(r),
+impl From<WidthAnswer> for Answer {
+    ghost from_gives = { λ w a. a ≡ numbered (width_outcome w) };
+
+    fn from(w: WidthAnswer) -> Answer {
+        match w {
+            Ok(n) => of_value(n),
+            Err(r) => r.into(),
+        }
     }
 }

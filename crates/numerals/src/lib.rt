@@ -12,6 +12,7 @@ pub enum Sign {
 }
 
 // A number that was read: how many digits it has, its value where it fits and else 0, whether it fits, and whether it is plainly spelled.
+// The value is no option: a record is made of it in either case, and 0 is what stands there (`grammar: Meaning.number`).
 #[derive(Clone, Copy)]
 pub struct Number {
     pub len: usize,

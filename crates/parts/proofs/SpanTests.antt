@@ -1,23 +1,15 @@
 -- Laws of the test on a span.
-use Prim.Native.Nat.{ℕ, ◌+◌, ◌-◌, ◌≤◌}
+use Prim.Native.Nat.{ℕ, ◌+◌, ◌-◌}
 use mathlib.Core.Path.{◌≡◌}
 use mathlib.Core.List.{List}
 use mathlib.Core.Bool.{true, false}
-use lib.Dec.{leb}
 use lib.ListN.{length, take, drop}
-use borrow.Author.Tests.{leb-true}
 use denote.Ref.{Bor}
-use Rattle.texts.proofs.Tests.{and-true}
 use Rattle.record.specs.declared.Span.{Span}
 use Rattle.grammar.specs.Spans.{inside, part}
 use Rattle.parts.specs.Places.{place_of, IsPart}
 
 module _ (source : Bor (List ℕ)) (p : Span) where
-  pub inside_true : inside (length source.now) p ≡ true → (p.start ≤ p.end) × (p.end ≤ length source.now)
-  inside_true e =
-      let h = and-true (leb p.start p.end) (leb p.end (length source.now)) e in
-      (leb-true p.start p.end h.0, leb-true p.end (length source.now) h.1)
-
   pub inside_part : inside (length source.now) p ≡ true → IsPart source p (record { ref_ptr = (source.ref_ptr.0, p.start + source.ref_ptr.1); now = take (p.end - p.start) (drop p.start source.now) })
   unfolding part place_of
   inside_part e = record { bytes = rw e; place = rw e }

@@ -11,10 +11,7 @@ use record::Span;
 pub fn inside(n: usize, p: Span) -> bool
     ensures { result ≡ insideOf n p }
 {
-    if p.start <= p.end {
-        return p.end <= n;
-    }
-    false
+    p.start <= p.end && p.end <= n
 }
 
 // The bytes of the source that the span names, and no copy; none, at the source's start, where it lies outside.
@@ -22,9 +19,8 @@ pub fn part_of(source: &[u8], p: Span) -> &[u8]
     ensures { IsPart source.entry p result }
 {
     if inside(source.len(), p) {
-        let start = p.start;
-        let end = p.end;
-        return &source[start..end];
+        &source[p.start..p.end]
+    } else {
+        &source[..0]
     }
-    &source[..0]
 }

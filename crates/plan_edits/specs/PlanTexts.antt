@@ -1,5 +1,5 @@
 -- The text of a plan, by the tests that were made.
-use Rattle.std.specs.Prelude.{ℕ, ◌≡◌, refl, Bool, true, false, cond, ℤ, pos, negsuc, nat_abs}
+use Rattle.std.specs.Prelude.{ℕ, ◌≡◌, refl, Bool, true, false, cond, ℤ, pos, negsuc, nat_abs, None, Some}
 use mathlib.Core.List.{List, ◌++◌, append-nil}
 use Rattle.std.proofs.Math.Option.{Option, none, some}
 use Rattle.numerals.specs.Digits.{dec}
@@ -12,8 +12,7 @@ use Rattle.emit_edit.specs.declared.EditPieces.{EditPieces}
 use Rattle.emit_word.specs.Words.{word_text}
 use Rattle.emit_edit.specs.Texts.{edit_text}
 use Rattle.emit_piece.specs.PartLengths.{no_part}
-use Rattle.plan_edits.specs.declared.EditPlan.{EditPlan}
-use Rattle.plan_edits.specs.declared.EditPlan.TheVariants.{NoText, Text}
+use Rattle.plan_edits.specs.Named.{EditPlan}
 use Rattle.plan_edits.specs.EditPlans.{plan_text, edit_if, letters_edit, word_edit, word_alone, is_unsigned}
 
 module _ (s : List ℕ) where
@@ -35,11 +34,11 @@ module _ (s : List ℕ) where
     either true x y o u f g = f refl
     either false x y o u f g = g refl
 
-    pub pieces_text : (pieces : EditPieces) (t : A) → edit_text s pieces ≡ print t → plan_text s (Text pieces) ≡ map_o print (some t)
+    pub pieces_text : (pieces : EditPieces) (t : A) → edit_text s pieces ≡ print t → plan_text s (Some pieces) ≡ map_o print (some t)
     pieces_text pieces t e = rw e
 
     pub edit_if_lem : (b : Bool) (pieces : EditPieces) (t : A) → edit_text s pieces ≡ print t → plan_text s (edit_if b pieces) ≡ map_o print (cond b (some t) none)
-    edit_if_lem b pieces t e = either b (Text pieces) NoText (some t) none (λ h. pieces_text pieces t e) (λ h. refl)
+    edit_if_lem b pieces t e = either b (Some pieces) None (some t) none (λ h. pieces_text pieces t e) (λ h. refl)
 
 pub unsigned_digits_lem : (z : ℤ) → unsigned_digits z ≡ cond (is_unsigned z) (some (dec (nat_abs z))) none
 unsigned_digits_lem (pos v) = refl

@@ -5,26 +5,16 @@ ghost use Rattle.std.specs.Prelude.{◌≡◌};
 ghost use Rattle.plan_edits.specs.EditPlans.{edit_if, letters_edit, word_edit, word_alone, is_unsigned};
 
 use emit_edit::EditPieces;
-use emit_piece::{Amount, OneByte};
 use emit_word::Word;
 use record::Span;
 
 pub const NO_SPAN: Span = Span { start: 0, end: 0 };
 
-// The edit whose text is to be written, where there is one.
-#[derive(Clone, Copy)]
-pub enum EditPlan {
-    NoText,
-    Text(EditPieces),
-}
-
-pub fn edit_if(b: bool, pieces: EditPieces) -> EditPlan
+// The pieces of an edit's text, where a test lets them through.
+pub fn edit_if(b: bool, pieces: EditPieces) -> Option<EditPieces>
     ensures { result ≡ edit_if b pieces }
 {
-    if b {
-        return EditPlan::Text(pieces);
-    }
-    EditPlan::NoText
+    b.then_some(pieces)
 }
 
 // Letters, a word, letters.
@@ -35,8 +25,8 @@ pub fn letters_edit(first: Span, word: Word, second: Span) -> EditPieces
         first,
         word,
         second,
-        sign: OneByte::Nothing,
-        amount: Amount::Absent,
+        sign: None,
+        amount: None,
         joint: Word::Empty,
         last: NO_SPAN,
     }

@@ -2,7 +2,6 @@
 #![tactic(auto)]
 
 ghost use Rattle.std.specs.Prelude.{◌≡◌};
-ghost use Rattle.alphabet.specs.Cells.{IsTable};
 ghost use Rattle.grammar.specs.Spans.{optional_part};
 ghost use Rattle.grammar.specs.Contents.{header_content};
 ghost use Rattle.lang.specs.Whole.{whole};
@@ -14,73 +13,46 @@ ghost use Rattle.plan_header.specs.Headings.{heading_of};
 
 use alphabet::Class;
 use emit_draft::Heading;
-use emit_piece::OneByte;
 use record::{Header, Kind, Part};
 
 // Is the whole text an accession?
-fn is_accession(table: &[u8; 256], s: &[u8]) -> bool
-    requires { IsTable table.now }
+#[tactic(auto, using(crate::proofs::WholeRuns::accession_empty, crate::proofs::WholeRuns::accession_whole))]
+fn is_accession(s: &[u8]) -> bool
     ensures { result ≡ is_some (whole accession_lang s.now) }
 {
-    if s.len() == 0 {
-        return false;
-    }
-    header_lengths::accession(table, s) == s.len()
+    !s.is_empty() && header_lengths::accession(s) == s.len()
 }
 
 // Is the whole text one or more letters or digits?
-fn is_name(table: &[u8; 256], s: &[u8]) -> bool
-    requires { IsTable table.now }
+#[tactic(auto, using(crate::proofs::WholeRuns::name_empty, crate::proofs::WholeRuns::name_whole))]
+fn is_name(s: &[u8]) -> bool
     ensures { result ≡ is_name s.now }
 {
-    if s.len() == 0 {
-        return false;
-    }
-    alphabet::run_of(table, Class::Alphanumeric, s) == s.len()
+    !s.is_empty() && alphabet::run_of(Class::Alphanumeric, s) == s.len()
 }
 
-fn gene_has_text(table: &[u8; 256], source: &[u8], gene: Part) -> bool
-    requires { IsTable table.now }
+fn gene_has_text(source: &[u8], gene: Part) -> bool
     ensures { result ≡ is_gene (optional_part source.now gene) }
 {
-    match gene {
-        Part::Absent => true,
-        Part::Present(p) => is_name(table, parts::part_of(source, p)),
-    }
+    gene.is_none_or(|p| is_name(parts::part_of(source, p)))
 }
 
-pub fn header_has_text(table: &[u8; 256], source: &[u8], h: Header) -> bool
-    requires { IsTable table.now }
+#[tactic(auto, using(crate::specs::HeaderText::has_text))]
+pub fn header_has_text(source: &[u8], h: Header) -> bool
     ensures { result ≡ is_some (canon_header (header_content source.now h)) }
 {
-    let accession = h.accession;
-    let gene = h.gene_symbol;
-    if gene_has_text(table, source, gene) {
-        return is_accession(table, parts::part_of(source, accession));
-    }
-    false
+    gene_has_text(source, h.gene_symbol) && is_accession(parts::part_of(source, h.accession))
 }
 
 // The gene in brackets, where there is one.
 pub fn heading(h: Header, kind: Kind) -> Heading
     ensures { result ≡ heading_of h kind }
 {
-    let accession = h.accession;
-    let gene_symbol = h.gene_symbol;
-    match gene_symbol {
-        Part::Absent => Heading {
-            accession,
-            opening: OneByte::Nothing,
-            gene: plan_edits::NO_SPAN,
-            closing: OneByte::Nothing,
-            kind,
-        },
-        Part::Present(gene) => Heading {
-            accession,
-            opening: OneByte::Byte(b'('),
-            gene,
-            closing: OneByte::Byte(b')'),
-            kind,
-        },
+    Heading {
+        accession: h.accession,
+        opening: h.gene_symbol.map(|_| b'('),
+        gene: h.gene_symbol.unwrap_or(plan_edits::NO_SPAN),
+        closing: h.gene_symbol.map(|_| b')'),
+        kind,
     }
 }

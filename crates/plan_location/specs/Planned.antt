@@ -1,5 +1,5 @@
 -- What is planned for a location is its canonical text; and nothing where it has none.
-use Rattle.std.specs.Prelude.{ℕ, suc, ◌≡◌, Bool, ◌&&◌, ℤ, pos, negsuc, nat_abs}
+use Rattle.std.specs.Prelude.{ℕ, suc, ◌≡◌, Bool, ◌&&◌, ℤ, pos, negsuc, nat_abs, None, Some}
 use Prim.Native.Char.{code}
 use Rattle.std.proofs.Math.Path.{refl, ap}
 use Rattle.std.proofs.Common.{sym, ◌∙◌}
@@ -17,12 +17,9 @@ use Rattle.residue.specs.Residues.{is_residue}
 use Rattle.record.specs.declared.Span.{Span}
 use Rattle.record.specs.declared.Kind.{Kind}
 use Rattle.record.specs.declared.Kind.TheVariants.{Cds, Genome, Mt, Tx, Prot, Rna}
-use Rattle.record.specs.declared.Offset as Declared
-use Rattle.record.specs.declared.Offset.TheVariants.{Absent, By}
+use Rattle.record.specs.Named as Declared
 use Rattle.record.specs.declared.CdsFrom.{CdsFrom}
 use Rattle.record.specs.declared.CdsFrom.TheVariants.{Start, End}
-use Rattle.record.specs.declared.GenomePos.TheVariants as Genomes
-use Rattle.record.specs.declared.MtPos.TheVariants as Mts
 use Rattle.grammar.specs.Positions as G
 use Rattle.grammar.specs.Positions.{Mark.bare, Mark.minus, Mark.star, OffsetTree, Genomic.known, Residual.residual, print_mark, print_offset, print_based, print_genomic, print_residual, print_position}
 use Rattle.grammar.specs.Shapes.{Interval, Interval.one, Interval.two, Mu, Mu.certain, Mu.uncertain, Both.both, print_interval, print_mu}
@@ -46,22 +43,18 @@ use Rattle.emit_piece.specs.Texts.{byte_text, amount_text, no_span}
 use Rattle.emit_location.specs.Texts.{position_text, location_text, no_end}
 use Rattle.emit_piece.specs.PartLengths.{no_part}
 use Rattle.emit_location.specs.LocationLengths.{no_end_lem}
-use Rattle.emit_piece.specs.declared.OneByte as Emit
-use Rattle.emit_piece.specs.declared.OneByte.TheVariants.{Nothing, Byte}
-use Rattle.plan_location.specs.declared.PositionPlan.{PositionPlan}
-use Rattle.plan_location.specs.declared.PositionPlan.TheVariants as Ends
-use Rattle.plan_location.specs.declared.LocationPlan.{LocationPlan}
-use Rattle.plan_location.specs.declared.LocationPlan.TheVariants as Locations
+use Rattle.emit_piece.specs.Named as Emit
+use Rattle.plan_location.specs.Named.{PositionPlan, LocationPlan}
 use Rattle.plan_location.specs.Plan.{held, held_offset, offset_sign, offset_amount, end_plan, unsigned_plan, based_plan, unknown_end, genomic_plan, residual_plan, position_plan, bracket_mark, location_plan, plan_location}
 
 module _ (s : List ℕ) where
   abbrev pub end_plan_text : PositionPlan → Option (List ℕ)
-  end_plan_text Ends.NoText = none
-  end_plan_text (Ends.Text e) = some (position_text s e)
+  end_plan_text None = none
+  end_plan_text (Some e) = some (position_text s e)
 
   abbrev pub plan_text : LocationPlan → Option (List ℕ)
-  plan_text Locations.NoText = none
-  plan_text (Locations.Text p) = some (location_text s p)
+  plan_text None = none
+  plan_text (Some p) = some (location_text s p)
 
 -- ---- offsets
 abbrev offset_text : Declared.Offset → List ℕ
@@ -70,15 +63,15 @@ offset_text o = byte_text (offset_sign o) ++ amount_text (offset_amount o)
 -- the text of what canon gives, behind a text x
 offset_canon : (x : List ℕ) (o : Declared.Offset) → map_o (λ (t : OffsetTree). x ++ print_offset t) (canon_offset o) ≡ cond (held_offset o) (some (x ++ offset_text o)) none
 unfolding held written_sign
-offset_canon x Absent = refl
-offset_canon x (By (pos v)) = go (fits Unsigned v) refl
+offset_canon x None = refl
+offset_canon x (Some (pos v)) = go (fits Unsigned v) refl
   where
-    go : (t : Bool) → fits Unsigned v ≡ t → map_o (λ (o : OffsetTree). x ++ print_offset o) (canon_offset (By (pos v))) ≡ cond (held_offset (By (pos v))) (some (x ++ offset_text (By (pos v)))) none
+    go : (t : Bool) → fits Unsigned v ≡ t → map_o (λ (o : OffsetTree). x ++ print_offset o) (canon_offset (Some (pos v))) ≡ cond (held_offset (Some (pos v))) (some (x ++ offset_text (Some (pos v)))) none
     go true e = rw e
     go false e = rw e
-offset_canon x (By (negsuc v)) = go (fits Minus (suc v)) refl
+offset_canon x (Some (negsuc v)) = go (fits Minus (suc v)) refl
   where
-    go : (t : Bool) → fits Minus (suc v) ≡ t → map_o (λ (o : OffsetTree). x ++ print_offset o) (canon_offset (By (negsuc v))) ≡ cond (held_offset (By (negsuc v))) (some (x ++ offset_text (By (negsuc v)))) none
+    go : (t : Bool) → fits Minus (suc v) ≡ t → map_o (λ (o : OffsetTree). x ++ print_offset o) (canon_offset (Some (negsuc v))) ≡ cond (held_offset (Some (negsuc v))) (some (x ++ offset_text (Some (negsuc v)))) none
     go true e = rw e
     go false e = rw e
 
@@ -110,30 +103,30 @@ module _ (s : List ℕ) where
 
   start_text : (z : ℤ) (o : Declared.Offset) → end_plan_text s (based_plan Start z o) ≡ map_o print_based (canon_based Start z o)
   unfolding held written_sign
-  start_text (pos v) o = based_text bare Nothing refl Unsigned (pos v) refl o
-  start_text (negsuc v) o = based_text minus (Byte (code "-")) refl Minus (negsuc v) refl o
+  start_text (pos v) o = based_text bare None refl Unsigned (pos v) refl o
+  start_text (negsuc v) o = based_text minus (Some (code "-")) refl Minus (negsuc v) refl o
 
   from_text : (from : CdsFrom) (z : ℤ) (o : Declared.Offset) → end_plan_text s (based_plan from z o) ≡ map_o print_based (canon_based from z o)
   unfolding held written_sign
   from_text Start z o = start_text z o
-  from_text End (pos v) o = based_text star (Byte (code "*")) refl Unsigned (pos v) refl o
+  from_text End (pos v) o = based_text star (Some (code "*")) refl Unsigned (pos v) refl o
   from_text End (negsuc v) o = refl
 
   -- an unsigned number behind a residue or nothing
   unsigned_text : {A : Type 0} (tree : List ℕ → A) (print : A → List ℕ) (r : Span) → ((ds : List ℕ) → print (tree ds) ≡ part s r ++ ds)
-      → (z : ℤ) → end_plan_text s (unsigned_plan r Nothing z Absent) ≡ map_o print (map_o tree (unsigned_digits z))
+      → (z : ℤ) → end_plan_text s (unsigned_plan r None z None) ≡ map_o print (map_o tree (unsigned_digits z))
   unfolding held written_sign
   unsigned_text tree print r p (negsuc v) = refl
-  unsigned_text tree print r p (pos v) = end_text r Nothing (pos v) Absent ∙ go (fits Unsigned v) refl
+  unsigned_text tree print r p (pos v) = end_text r None (pos v) None ∙ go (fits Unsigned v) refl
     where
       go : (t : Bool) → fits Unsigned v ≡ t → cond (fits Unsigned v && true) (some (part s r ++ (dec v ++ []))) none ≡ map_o print (map_o tree (unsigned_digits (pos v)))
       go true q = rw (q, p (dec v), append-nil (dec v))
       go false q = rw q
 
-  known_text : (z : ℤ) → end_plan_text s (unsigned_plan no_span Nothing z Absent) ≡ map_o print_genomic (canon_genomic (some z))
+  known_text : (z : ℤ) → end_plan_text s (unsigned_plan no_span None z None) ≡ map_o print_genomic (canon_genomic (some z))
   known_text = unsigned_text known print_genomic no_span (λ ds. rw (no_part s))
 
-  unknown_text : end_plan_text s (Ends.Text unknown_end) ≡ some (ascii "?")
+  unknown_text : end_plan_text s (Some unknown_end) ≡ some (ascii "?")
   unfolding position_text
   unknown_text = rw (no_part s)
 
@@ -144,11 +137,11 @@ module _ (s : List ℕ) where
       go true e = rw e (unsigned_text (residual (part s aa)) print_residual aa (λ ds. refl) z)
       go false e = rw e
 
-  genome_text : (t : Bool) (z : ℤ) → end_plan_text s (genomic_plan t z) ≡ map_o print_genomic (canon_position Genome (cond t Genomes.Unknown (Genomes.At z)))
+  genome_text : (t : Bool) (z : ℤ) → end_plan_text s (genomic_plan t z) ≡ map_o print_genomic (canon_position Genome (cond t None (Some z)))
   genome_text true z = unknown_text
   genome_text false z = known_text z
 
-  mt_text : (t : Bool) (z : ℤ) → end_plan_text s (genomic_plan t z) ≡ map_o print_genomic (canon_position Mt (cond t Mts.Unknown (Mts.At z)))
+  mt_text : (t : Bool) (z : ℤ) → end_plan_text s (genomic_plan t z) ≡ map_o print_genomic (canon_position Mt (cond t None (Some z)))
   mt_text true z = unknown_text
   mt_text false z = known_text z
 
@@ -169,27 +162,27 @@ module _ (s : List ℕ) {A : Type 0} (print : A → List ℕ) (is_certain : Bool
   abbrev canon_text : Option (Interval A) → Option (List ℕ)
   canon_text o = map_o (print_mu (print_interval print)) (map_o (mu_of is_certain) o)
 
-  one_text : (x : PositionPlan) (o : Option A) → end_plan_text s x ≡ map_o print o → plan_text s (location_plan is_certain x Nothing (Ends.Text no_end)) ≡ canon_text (map_o one o)
+  one_text : (x : PositionPlan) (o : Option A) → end_plan_text s x ≡ map_o print o → plan_text s (location_plan is_certain x None (Some no_end)) ≡ canon_text (map_o one o)
   unfolding location_text
-  one_text Ends.NoText none e = refl
-  one_text Ends.NoText (some a) e = absurd (none_some e)
-  one_text (Ends.Text x) none e = absurd (none_some (sym e))
-  one_text (Ends.Text x) (some a) e = let j : position_text s x ≡ print a = cc in rw (no_end_lem s, j) (ap some (go is_certain))
+  one_text None none e = refl
+  one_text None (some a) e = absurd (none_some e)
+  one_text (Some x) none e = absurd (none_some (sym e))
+  one_text (Some x) (some a) e = let j : position_text s x ≡ print a = cc in rw (no_end_lem s, j) (ap some (go is_certain))
     where
       go : (t : Bool) → byte_text (bracket_mark t (code "(")) ++ (print a ++ byte_text (bracket_mark t (code ")"))) ≡ print_mu (print_interval print) (mu_of t (one a))
       go true = append-nil (print a)
       go false = refl
 
   two_text : (x y : PositionPlan) (o u : Option A) → end_plan_text s x ≡ map_o print o → end_plan_text s y ≡ map_o print u
-      → plan_text s (location_plan is_certain x (Byte (code "_")) y) ≡ canon_text (both_o two o u)
+      → plan_text s (location_plan is_certain x (Some (code "_")) y) ≡ canon_text (both_o two o u)
   unfolding location_text
-  two_text Ends.NoText y none u e f = refl
-  two_text Ends.NoText y (some a) u e f = absurd (none_some e)
-  two_text (Ends.Text x) y none u e f = absurd (none_some (sym e))
-  two_text (Ends.Text x) Ends.NoText (some a) none e f = refl
-  two_text (Ends.Text x) Ends.NoText (some a) (some b) e f = absurd (none_some f)
-  two_text (Ends.Text x) (Ends.Text y) (some a) none e f = absurd (none_some (sym f))
-  two_text (Ends.Text x) (Ends.Text y) (some a) (some b) e f =
+  two_text None y none u e f = refl
+  two_text None y (some a) u e f = absurd (none_some e)
+  two_text (Some x) y none u e f = absurd (none_some (sym e))
+  two_text (Some x) None (some a) none e f = refl
+  two_text (Some x) None (some a) (some b) e f = absurd (none_some f)
+  two_text (Some x) (Some y) (some a) none e f = absurd (none_some (sym f))
+  two_text (Some x) (Some y) (some a) (some b) e f =
       let i : position_text s x ≡ print a = cc in
       let j : position_text s y ≡ print b = cc in
       rw (i, j) (ap some (go is_certain))
@@ -199,7 +192,7 @@ module _ (s : List ℕ) {A : Type 0} (print : A → List ℕ) (is_certain : Bool
       go false = ap (λ (x : List ℕ). code "(" ∷ x) (sym (append_assoc (print a) (ascii "_" ++ print b) (ascii ")")))
 
   ends_text : (is_one : Bool) (x y : PositionPlan) (o u : Option A) → end_plan_text s x ≡ map_o print o → end_plan_text s y ≡ map_o print u
-      → plan_text s (cond is_one (location_plan is_certain x Nothing (Ends.Text no_end)) (location_plan is_certain x (Byte (code "_")) y)) ≡ canon_text (cond is_one (map_o one o) (both_o two o u))
+      → plan_text s (cond is_one (location_plan is_certain x None (Some no_end)) (location_plan is_certain x (Some (code "_")) y)) ≡ canon_text (cond is_one (map_o one o) (both_o two o u))
   ends_text true x y o u e f = one_text x o e
   ends_text false x y o u e f = two_text x y o u e f
 

@@ -2,7 +2,6 @@
 #![tactic(auto)]
 
 ghost use Rattle.std.specs.Prelude.{◌≡◌, true};
-ghost use Rattle.alphabet.specs.Cells.{IsTable};
 ghost use Rattle.plan_location.specs.Plan.{held_offset, sign_mark, offset_sign, offset_amount, end_plan, unsigned_plan, based_plan, genomic_plan, residual_plan, position_plan, bracket_mark, location_plan, plan_location};
 
 use any_location::{Location, Position};
@@ -12,137 +11,108 @@ use record::{CdsFrom, Kind, Offset, Span};
 
 pub const NO_END: PositionPieces = PositionPieces {
     residue: plan_edits::NO_SPAN,
-    mark: OneByte::Nothing,
-    number: Amount::Absent,
-    sign: OneByte::Nothing,
-    offset: Amount::Absent,
+    mark: None,
+    number: None,
+    sign: None,
+    offset: None,
 };
 
-// A position that is to be written, where it has a text.
-#[derive(Clone, Copy)]
-pub enum PositionPlan {
-    NoText,
-    Text(PositionPieces),
-}
-
-#[derive(Clone, Copy)]
-pub enum LocationPlan {
-    NoText,
-    Text(LocationPieces),
-}
-
-// ---- positions
+// ---- positions: their pieces, where they have a text
 
 // `-` before a number below 0, and `other` before the rest.
 fn sign_mark(other: OneByte, n: i32) -> OneByte
     ensures { result ≡ sign_mark other n }
 {
-    if n < 0 {
-        return OneByte::Byte(b'-');
-    }
-    other
+    if n < 0 { Some(b'-') } else { other }
 }
 
 fn offset_sign(offset: Offset) -> OneByte
     ensures { result ≡ offset_sign offset }
 {
-    match offset {
-        Offset::Absent => OneByte::Nothing,
-        Offset::By(n) => sign_mark(OneByte::Byte(b'+'), n),
-    }
+    offset.and_then(|n| sign_mark(Some(b'+'), n))
 }
 
 // Said beside the answer: an i32 holds the offset.
+#[tactic(auto, using(crate::proofs::PlanCases::held_true))]
 fn offset_amount(offset: Offset) -> Amount
     ensures { (result ≡ offset_amount offset) × (held_offset offset ≡ true) }
 {
-    match offset {
-        Offset::Absent => Amount::Absent,
-        Offset::By(n) => Amount::Count(emit_number::magnitude(n)),
-    }
+    offset.map(emit_number::magnitude)
 }
 
 // A residue or none, a mark or none, the position's number without its sign, an offset.
-fn plan_end(residue: Span, mark: OneByte, p: Position, offset: Offset) -> PositionPlan
+#[tactic(auto, using(crate::proofs::PlanCases::held_true), unfolding(crate::specs::Plan::end_plan))]
+fn plan_end(residue: Span, mark: OneByte, p: Position, offset: Offset) -> Option<PositionPieces>
     ensures { result ≡ end_plan residue mark p.number offset }
 {
-    PositionPlan::Text(PositionPieces {
+    Some(PositionPieces {
         residue,
         mark,
-        number: Amount::Count(emit_number::magnitude(p.number)),
+        number: Some(emit_number::magnitude(p.number)),
         sign: offset_sign(offset),
         offset: offset_amount(offset),
     })
 }
 
 // An unsigned number has a text only from 0 on.
-fn plan_unsigned(residue: Span, mark: OneByte, p: Position, offset: Offset) -> PositionPlan
+fn plan_unsigned(
+    residue: Span,
+    mark: OneByte,
+    p: Position,
+    offset: Offset,
+) -> Option<PositionPieces>
     ensures { result ≡ unsigned_plan residue mark p.number offset }
 {
     if p.number < 0 {
-        return PositionPlan::NoText;
+        None
+    } else {
+        plan_end(residue, mark, p, offset)
     }
-    plan_end(residue, mark, p, offset)
 }
 
 // c, n, r
-fn plan_based(from: CdsFrom, p: Position) -> PositionPlan
+fn plan_based(from: CdsFrom, p: Position) -> Option<PositionPieces>
     ensures { result ≡ based_plan from p.number p.offset }
 {
-    let offset = p.offset;
     match from {
-        CdsFrom::Start => plan_end(
-            plan_edits::NO_SPAN,
-            sign_mark(OneByte::Nothing, p.number),
-            p,
-            offset,
-        ),
-        CdsFrom::End => plan_unsigned(plan_edits::NO_SPAN, OneByte::Byte(b'*'), p, offset),
+        CdsFrom::Start => plan_end(plan_edits::NO_SPAN, sign_mark(None, p.number), p, p.offset),
+        CdsFrom::End => plan_unsigned(plan_edits::NO_SPAN, Some(b'*'), p, p.offset),
     }
 }
 
 // g, m
-fn plan_genomic(p: Position) -> PositionPlan
+fn plan_genomic(p: Position) -> Option<PositionPieces>
     ensures { result ≡ genomic_plan p.unknown p.number }
 {
     if p.unknown {
-        return PositionPlan::Text(PositionPieces {
-            residue: plan_edits::NO_SPAN,
-            mark: OneByte::Byte(b'?'),
-            number: Amount::Absent,
-            sign: OneByte::Nothing,
-            offset: Amount::Absent,
-        });
+        Some(PositionPieces {
+            mark: Some(b'?'),
+            ..NO_END
+        })
+    } else {
+        plan_unsigned(plan_edits::NO_SPAN, None, p, None)
     }
-    plan_unsigned(plan_edits::NO_SPAN, OneByte::Nothing, p, Offset::Absent)
 }
 
 // p
-fn plan_residual(table: &[u8; 256], source: &[u8], p: Position) -> PositionPlan
-    requires { IsTable table.now }
+fn plan_residual(source: &[u8], p: Position) -> Option<PositionPieces>
     ensures { result ≡ residual_plan source.now p.aa p.number }
 {
-    let aa = p.aa;
-    if residue::is_residue(table, parts::part_of(source, aa)) {
-        return plan_unsigned(aa, OneByte::Nothing, p, Offset::Absent);
+    if residue::is_residue(parts::part_of(source, p.aa)) {
+        plan_unsigned(p.aa, None, p, None)
+    } else {
+        None
     }
-    PositionPlan::NoText
 }
 
-fn plan_position(table: &[u8; 256], source: &[u8], kind: Kind, p: Position) -> PositionPlan
-    requires { IsTable table.now }
+fn plan_position(source: &[u8], kind: Kind, p: Position) -> Option<PositionPieces>
     ensures { result ≡ position_plan source.now kind p }
 {
     match kind {
-        Kind::Cds => {
-            let from = p.cds_from;
-            plan_based(from, p)
-        }
-        Kind::Genome => plan_genomic(p),
-        Kind::Mt => plan_genomic(p),
-        Kind::Tx => plan_based(CdsFrom::Start, p),
-        Kind::Prot => plan_residual(table, source, p),
-        Kind::Rna => plan_based(CdsFrom::Start, p),
+        Kind::Cds => plan_based(p.cds_from, p),
+        Kind::Genome | Kind::Mt => plan_genomic(p),
+        Kind::Tx | Kind::Rna => plan_based(CdsFrom::Start, p),
+        Kind::Prot => plan_residual(source, p),
     }
 }
 
@@ -152,50 +122,36 @@ fn plan_position(table: &[u8; 256], source: &[u8], kind: Kind, p: Position) -> P
 pub fn bracket(certain: bool, b: u8) -> OneByte
     ensures { result ≡ bracket_mark certain b }
 {
-    if certain {
-        return OneByte::Nothing;
-    }
-    OneByte::Byte(b)
+    (!certain).then_some(b)
 }
 
-fn plan_place(certain: bool, start: PositionPlan, joint: OneByte, end: PositionPlan) -> LocationPlan
+fn plan_place(
+    certain: bool,
+    start: Option<PositionPieces>,
+    joint: OneByte,
+    end: Option<PositionPieces>,
+) -> Option<LocationPieces>
     ensures { result ≡ location_plan certain start joint end }
 {
-    let PositionPlan::Text(first) = start else {
-        return LocationPlan::NoText;
-    };
-    let PositionPlan::Text(last) = end else {
-        return LocationPlan::NoText;
-    };
-    LocationPlan::Text(LocationPieces {
+    Some(LocationPieces {
         opening: bracket(certain, b'('),
-        start: first,
+        start: start?,
         joint,
-        end: last,
+        end: end?,
         closing: bracket(certain, b')'),
     })
 }
 
 // What is to be written for a location, where it has a text.
-pub fn plan_location(table: &[u8; 256], source: &[u8], kind: Kind, l: Location) -> LocationPlan
-    requires { IsTable table.now }
+#[tactic(auto, unfolding(crate::specs::Plan::plan_location))]
+pub fn plan_location(source: &[u8], kind: Kind, l: Location) -> Option<LocationPieces>
     ensures { result ≡ plan_location source.now kind l }
 {
-    let start = l.start;
-    let end = l.end;
-    let first = plan_position(table, source, kind, start);
-    if any_location_same::same_position(source, kind, start, end) {
-        return plan_place(
-            l.certain,
-            first,
-            OneByte::Nothing,
-            PositionPlan::Text(NO_END),
-        );
+    let first = plan_position(source, kind, l.start);
+    if any_location_same::same_position(source, kind, l.start, l.end) {
+        plan_place(l.certain, first, None, Some(NO_END))
+    } else {
+        let last = plan_position(source, kind, l.end);
+        plan_place(l.certain, first, Some(b'_'), last)
     }
-    plan_place(
-        l.certain,
-        first,
-        OneByte::Byte(b'_'),
-        plan_position(table, source, kind, end),
-    )
 }

@@ -1,5 +1,5 @@
 -- The Met-1 `?` record: when a location and an edit are it, and the location that is written for it.
-use Rattle.std.specs.Prelude.{ℕ, List, Bool, cond, not, ◌&&◌, pos}
+use Rattle.std.specs.Prelude.{ℕ, List, Bool, cond, not, ◌&&◌, pos, None, Some}
 use Prim.Native.Char.{code}
 use Rattle.texts.specs.Ascii.{ascii}
 use Rattle.texts.specs.Words.{same}
@@ -11,18 +11,16 @@ use Rattle.lang_locations.specs.Equal.{eqℤ}
 use Rattle.lang_canon.specs.ProteinBodyCanon.{is_unknown}
 use Rattle.any_location.specs.declared.Position.{Position}
 use Rattle.any_location.specs.declared.Location.{Location}
-use Rattle.emit_piece.specs.declared.OneByte.TheVariants.{Nothing, Byte}
-use Rattle.emit_piece.specs.declared.Amount.TheVariants.{Absent, Count}
 use Rattle.emit_location.specs.Texts.{no_end}
 use Rattle.emit_location.specs.declared.PositionPieces.{PositionPieces}
 use Rattle.emit_location.specs.declared.LocationPieces.{LocationPieces}
 
 -- a location of one position
 abbrev pub lone_location : PositionPieces → LocationPieces
-lone_location e = record { opening = Nothing; start = e; joint = Nothing; end = no_end; closing = Nothing }
+lone_location e = record { opening = None; start = e; joint = None; end = no_end; closing = None }
 
 abbrev pub met01_location : Span → LocationPieces
-met01_location aa = lone_location (record { residue = aa; mark = Byte (code "0"); number = Count 1; sign = Nothing; offset = Absent })
+met01_location aa = lone_location (record { residue = aa; mark = Some (code "0"); number = Some 1; sign = None; offset = None })
 
 -- both certain, or both uncertain
 abbrev pub is_alike : Bool → Bool → Bool

@@ -8,7 +8,6 @@ ghost use Rattle.plan_met1.specs.Met1.{is_met_one, is_unknown_edit, is_alike, is
 
 use any_location::{Location, Position};
 use emit_location::{LocationPieces, PositionPieces};
-use emit_piece::{Amount, OneByte};
 use record::{ProteinEdit, Span};
 
 // The part is this word.
@@ -21,54 +20,31 @@ fn spells(source: &[u8], p: Span, word: &[u8]) -> bool
 fn is_met_one(source: &[u8], p: Position) -> bool
     ensures { result ≡ is_met_one source.now p }
 {
-    let aa = p.aa;
-    if spells(source, aa, b"Met") {
-        return any_location_same::same_number(p.number, 1);
-    }
-    false
+    spells(source, p.aa, b"Met") && p.number == 1
 }
 
 fn is_unknown(source: &[u8], e: ProteinEdit) -> bool
     ensures { result ≡ is_unknown_edit source.now e }
 {
-    match e {
-        ProteinEdit::Fs(_, _, _) => false,
-        ProteinEdit::Ext(_, _, _) => false,
-        ProteinEdit::Subst(p) => spells(source, p, b"?"),
-        ProteinEdit::DelIns(_) => false,
-        ProteinEdit::Ins(_) => false,
-        ProteinEdit::Del => false,
-        ProteinEdit::Dup => false,
-        ProteinEdit::Ident => false,
-    }
+    matches!(e, ProteinEdit::Subst(p) if spells(source, p, b"?"))
 }
 
 // Both certain, or both uncertain.
 fn is_alike(located: bool, certain: bool) -> bool
     ensures { result ≡ is_alike located certain }
 {
-    if located {
-        return certain;
-    }
-    !certain
+    located == certain
 }
 
 // Location and edit of which `Met1?` or `(Met1?)` would be composed.
+#[tactic(auto, unfolding(crate::specs::Met1::is_barred))]
 pub fn is_barred(source: &[u8], l: Location, certain: bool, e: ProteinEdit) -> bool
     ensures { result ≡ is_barred source.now l certain e }
 {
-    let start = l.start;
-    let end = l.end;
-    if !is_alike(l.certain, certain) {
-        return false;
-    }
-    if !is_met_one(source, start) {
-        return false;
-    }
-    if !is_met_one(source, end) {
-        return false;
-    }
-    is_unknown(source, e)
+    is_alike(l.certain, certain)
+        && is_met_one(source, l.start)
+        && is_met_one(source, l.end)
+        && is_unknown(source, e)
 }
 
 // A location of one position.
@@ -76,11 +52,11 @@ pub fn lone_location(start: PositionPieces) -> LocationPieces
     ensures { result ≡ lone_location start }
 {
     LocationPieces {
-        opening: OneByte::Nothing,
+        opening: None,
         start,
-        joint: OneByte::Nothing,
+        joint: None,
         end: plan_location::NO_END,
-        closing: OneByte::Nothing,
+        closing: None,
     }
 }
 
@@ -90,9 +66,8 @@ pub fn met01(aa: Span) -> LocationPieces
 {
     lone_location(PositionPieces {
         residue: aa,
-        mark: OneByte::Byte(b'0'),
-        number: Amount::Count(1),
-        sign: OneByte::Nothing,
-        offset: Amount::Absent,
+        mark: Some(b'0'),
+        number: Some(1),
+        ..plan_location::NO_END
     })
 }

@@ -1,5 +1,5 @@
 -- What is to be written for a nucleotide body, where it has a text.
-use Rattle.std.specs.Prelude.{ℕ, List, Bool, true, false}
+use Rattle.std.specs.Prelude.{ℕ, List, Bool, true, false, None, Some}
 use Prim.Native.Char.{code}
 use Rattle.record.specs.declared.Kind.{Kind}
 use Rattle.record.specs.declared.NaEdit.{NaEdit}
@@ -10,30 +10,27 @@ use Rattle.record.specs.declared.Wording.TheVariants.{Shortest, NoRef}
 use Rattle.any_location.specs.declared.Location.{Location}
 use Rattle.emit_location.specs.declared.LocationPieces.{LocationPieces}
 use Rattle.emit_edit.specs.declared.EditPieces.{EditPieces}
-use Rattle.plan_edits.specs.declared.EditPlan.{EditPlan}
-use Rattle.plan_edits.specs.declared.EditPlan.TheVariants as Edits
+use Rattle.plan_edits.specs.Named.{EditPlan}
 use Rattle.emit_draft.specs.declared.BodyPieces.{BodyPieces}
-use Rattle.plan_location.specs.declared.LocationPlan.{LocationPlan}
-use Rattle.plan_location.specs.declared.LocationPlan.TheVariants as Locations
+use Rattle.plan_location.specs.Named.{LocationPlan}
 use Rattle.plan_location.specs.Plan.{bracket_mark, plan_location}
 use Rattle.plan_na_edit.specs.Plan.{plan_na_edit}
 use Rattle.plan_no_ref.specs.NoRef.{no_ref_pieces}
-use Rattle.plan_na_body.specs.declared.BodyPlan.{BodyPlan}
-use Rattle.plan_na_body.specs.declared.BodyPlan.TheVariants.{NoText, Text}
+use Rattle.plan_na_body.specs.Named.{BodyPlan}
 
 -- an edit in brackets where it is not certain
 abbrev pub beside_body : LocationPieces → Bool → EditPieces → BodyPieces
 beside_body p sure pieces = record { location = p; opening = bracket_mark sure (code "("); edit = pieces; closing = bracket_mark sure (code ")") }
 
 abbrev pub joined_plan : Bool → LocationPlan → EditPlan → BodyPlan
-joined_plan sure (Locations.Text p) (Edits.Text pieces) = Text (beside_body p sure pieces)
-joined_plan sure (Locations.Text p) Edits.NoText = NoText
-joined_plan sure Locations.NoText pieces = NoText
+joined_plan sure (Some p) (Some pieces) = Some (beside_body p sure pieces)
+joined_plan sure (Some p) None = None
+joined_plan sure None pieces = None
 
 -- other pieces for an edit that has a text
 abbrev pub replaced_pieces : EditPlan → EditPieces → EditPlan
-replaced_pieces Edits.NoText pieces = Edits.NoText
-replaced_pieces (Edits.Text planned) pieces = Edits.Text pieces
+replaced_pieces None pieces = None
+replaced_pieces (Some planned) pieces = Some pieces
 
 abbrev pub is_certain : MuNaEdit → Bool
 is_certain (MuNa.Certain e) = true

@@ -1,5 +1,5 @@
 -- The text of a planned nucleotide body: the canonical text of the changed body, where the body as it came has one.
-use Rattle.std.specs.Prelude.{ℕ, ◌≡◌, Bool, true, false}
+use Rattle.std.specs.Prelude.{ℕ, ◌≡◌, Bool, true, false, None, Some}
 use Prim.Native.Char.{code}
 use Rattle.std.proofs.Math.Path.{refl}
 use Rattle.std.proofs.Common.{sym, ap, ◌∙◌}
@@ -30,23 +30,20 @@ use Rattle.emit_piece.specs.Texts.{byte_text}
 use Rattle.emit_edit.specs.Texts.{edit_text}
 use Rattle.emit_location.specs.Texts.{location_text}
 use Rattle.emit_edit.specs.declared.EditPieces.{EditPieces}
-use Rattle.plan_edits.specs.declared.EditPlan.{EditPlan}
-use Rattle.plan_edits.specs.declared.EditPlan.TheVariants as Edits
+use Rattle.plan_edits.specs.Named.{EditPlan}
 use Rattle.plan_edits.specs.EditPlans as R
 use Rattle.emit_draft.specs.Texts.{body_text}
 use Rattle.lang_canon.specs.Changes.{no_ref_na_edit, changed_na_edit}
 use Rattle.lang_canon.proofs.NoRefCanon.{no_ref_edit_lem}
 use Rattle.lang_canon.specs.Wording.{worded_na_edit, worded_na_body}
-use Rattle.plan_location.specs.declared.LocationPlan.{LocationPlan}
-use Rattle.plan_location.specs.declared.LocationPlan.TheVariants as Locations
+use Rattle.plan_location.specs.Named.{LocationPlan}
 use Rattle.plan_location.specs.Plan.{bracket_mark, plan_location}
 use Rattle.plan_location.specs.Planned as L
 use Rattle.plan_location.specs.Planned.{mu_of}
 use Rattle.plan_na_edit.specs.Plan.{plan_na_edit}
 use Rattle.plan_no_ref.specs.NoRef.{no_ref_pieces, no_ref_text}
 use Rattle.plan_na_edit.specs.Planned as E
-use Rattle.plan_na_body.specs.declared.BodyPlan.{BodyPlan}
-use Rattle.plan_na_body.specs.declared.BodyPlan.TheVariants.{NoText, Text}
+use Rattle.plan_na_body.specs.Named.{BodyPlan}
 use Rattle.plan_na_body.specs.Plan.{joined_plan, replaced_pieces, na_pieces, plan_na_body}
 
 -- a text in brackets where it is not certain
@@ -71,30 +68,30 @@ beside f g x o u = if_both f x (map_o g o) (map_o g u) ∙ ap (both_o f x) (if_m
 
 module _ (s : List ℕ) where
   abbrev pub plan_text : BodyPlan → Option (List ℕ)
-  plan_text NoText = none
-  plan_text (Text b) = some (body_text s b)
+  plan_text None = none
+  plan_text (Some b) = some (body_text s b)
 
   -- location beside edit, over whatever trees
   joined_text : {A B : Type 0} (f : A → List ℕ) (g : B → List ℕ) (is_certain : Bool) (x : LocationPlan) (y : EditPlan) (o : Option A) (u : Option B) → L.plan_text s x ≡ map_o f o → R.plan_text s y ≡ map_o g u
       → plan_text (joined_plan is_certain x y) ≡ both_o (λ a b. f a ++ wrapped is_certain (g b)) o u
   unfolding body_text
-  joined_text f g t Locations.NoText y none u e h = refl
-  joined_text f g t Locations.NoText y (some a) u e h = absurd (none_some e)
-  joined_text f g t (Locations.Text p) y none u e h = absurd (none_some (sym e))
-  joined_text f g t (Locations.Text p) Edits.NoText (some a) none e h = refl
-  joined_text f g t (Locations.Text p) Edits.NoText (some a) (some b) e h = absurd (none_some h)
-  joined_text f g t (Locations.Text p) (Edits.Text pieces) (some a) none e h = absurd (none_some (sym h))
-  joined_text f g t (Locations.Text p) (Edits.Text pieces) (some a) (some b) e h =
+  joined_text f g t None y none u e h = refl
+  joined_text f g t None y (some a) u e h = absurd (none_some e)
+  joined_text f g t (Some p) y none u e h = absurd (none_some (sym e))
+  joined_text f g t (Some p) None (some a) none e h = refl
+  joined_text f g t (Some p) None (some a) (some b) e h = absurd (none_some h)
+  joined_text f g t (Some p) (Some pieces) (some a) none e h = absurd (none_some (sym h))
+  joined_text f g t (Some p) (Some pieces) (some a) (some b) e h =
       let i : location_text s p ≡ f a = cc in
       let j : edit_text s pieces ≡ g b = cc in
       rw (i, j) (ap (λ (w : List ℕ). some (f a ++ w)) (bracketed t (g b)))
 
   -- other pieces for an edit that has a text
   replaced_text : (planned : EditPlan) (pieces : EditPieces) (o u : Option Tree.NaEditTree) → R.plan_text s planned ≡ map_o print_na_edit o → ((t : Tree.NaEditTree) → o ≡ some t → map_o print_na_edit u ≡ some (edit_text s pieces)) → R.plan_text s (replaced_pieces planned pieces) ≡ map_o print_na_edit (if_some o u)
-  replaced_text Edits.NoText pieces none u e h = refl
-  replaced_text Edits.NoText pieces (some t) u e h = absurd (none_some e)
-  replaced_text (Edits.Text planned) pieces none u e h = absurd (none_some (sym e))
-  replaced_text (Edits.Text planned) pieces (some t) u e h = sym (h t refl)
+  replaced_text None pieces none u e h = refl
+  replaced_text None pieces (some t) u e h = absurd (none_some e)
+  replaced_text (Some planned) pieces none u e h = absurd (none_some (sym e))
+  replaced_text (Some planned) pieces (some t) u e h = sym (h t refl)
 
   pieces_text : (w : Wording) (e : NaEdit) → R.plan_text s (na_pieces s w e) ≡ map_o print_na_edit (worded_na_edit nucleotide w (na_edit_content s e))
   unfolding na_pieces

@@ -2,7 +2,6 @@
 #![tactic(auto)]
 
 ghost use Rattle.std.specs.Prelude.{◌≡◌, leb, length};
-ghost use Rattle.alphabet.specs.Cells.{IsTable};
 ghost use Rattle.grammar.specs.Spans.{part};
 ghost use Rattle.plan_na_tests.specs.Tests.{is_seq, is_seq1, same_parts, one_each_parts};
 
@@ -10,12 +9,11 @@ use alphabet::Class;
 use record::Span;
 
 // Zero or more letters.
-pub fn is_seq(table: &[u8; 256], source: &[u8], p: Span) -> bool
-    requires { IsTable table.now }
+pub fn is_seq(source: &[u8], p: Span) -> bool
     ensures { result ≡ is_seq source.now p }
 {
     let bytes = parts::part_of(source, p);
-    alphabet::run_of(table, Class::Nucleotide, bytes) == bytes.len()
+    alphabet::run_of(Class::Nucleotide, bytes) == bytes.len()
 }
 
 pub fn is_some(source: &[u8], q: Span) -> bool
@@ -25,14 +23,10 @@ pub fn is_some(source: &[u8], q: Span) -> bool
 }
 
 // One or more letters.
-pub fn is_seq1(table: &[u8; 256], source: &[u8], q: Span) -> bool
-    requires { IsTable table.now }
+pub fn is_seq1(source: &[u8], q: Span) -> bool
     ensures { result ≡ is_seq1 source.now q }
 {
-    if is_seq(table, source, q) {
-        return is_some(source, q);
-    }
-    false
+    is_seq(source, q) && is_some(source, q)
 }
 
 pub fn same_parts(source: &[u8], p: Span, q: Span) -> bool
@@ -45,8 +39,5 @@ pub fn same_parts(source: &[u8], p: Span, q: Span) -> bool
 pub fn one_each_parts(source: &[u8], p: Span, q: Span) -> bool
     ensures { result ≡ one_each_parts source.now p q }
 {
-    if emit_piece::part_len(source, p) == 1 {
-        return emit_piece::part_len(source, q) == 1;
-    }
-    false
+    emit_piece::part_len(source, p) == 1 && emit_piece::part_len(source, q) == 1
 }

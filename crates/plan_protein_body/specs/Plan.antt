@@ -1,5 +1,5 @@
 -- What is to be written for a protein body, where it has a text.
-use Rattle.std.specs.Prelude.{ℕ, List, Bool, true, false, cond, not, ◌||◌}
+use Rattle.std.specs.Prelude.{ℕ, List, Bool, true, false, cond, not, ◌||◌, None, Some}
 use Prim.Native.Char.{code}
 use Rattle.record.specs.declared.Kind.TheVariants.{Prot}
 use Rattle.record.specs.declared.ProteinEdit.{ProteinEdit}
@@ -12,20 +12,16 @@ use Rattle.any_location.specs.OfRecord.{any_location}
 use Rattle.emit_location.specs.Texts.{no_end}
 use Rattle.emit_word.specs.declared.Word.{Word}
 use Rattle.emit_word.specs.declared.Word.TheVariants.{Equal, Question, Met1, NoProtein, NoProteinUncertain, NoChangeUncertain}
-use Rattle.emit_piece.specs.declared.OneByte.TheVariants.{Nothing}
 use Rattle.emit_location.specs.declared.LocationPieces.{LocationPieces}
 use Rattle.emit_edit.specs.declared.EditPieces.{EditPieces}
 use Rattle.plan_edits.specs.EditPlans.{word_alone}
-use Rattle.plan_edits.specs.declared.EditPlan.{EditPlan}
-use Rattle.plan_edits.specs.declared.EditPlan.TheVariants as Edits
+use Rattle.plan_edits.specs.Named.{EditPlan}
 use Rattle.emit_draft.specs.declared.BodyPieces.{BodyPieces}
-use Rattle.plan_location.specs.declared.LocationPlan.{LocationPlan}
-use Rattle.plan_location.specs.declared.LocationPlan.TheVariants as Locations
+use Rattle.plan_location.specs.Named.{LocationPlan}
 use Rattle.plan_location.specs.Plan.{bracket_mark, plan_location}
 use Rattle.plan_protein_edit.specs.Plan.{plan_protein_edit}
 use Rattle.plan_met1.specs.Met1.{lone_location, met01_location, is_barred}
-use Rattle.plan_na_body.specs.declared.BodyPlan.{BodyPlan}
-use Rattle.plan_na_body.specs.declared.BodyPlan.TheVariants.{NoText, Text}
+use Rattle.plan_na_body.specs.Named.{BodyPlan}
 
 -- ---- location and edit, in one pair of brackets where both are uncertain
 abbrev pub body_of : Bool → Bool → LocationPieces → EditPieces → BodyPieces
@@ -37,19 +33,19 @@ body_of isLocated is_certain p pieces = record {
 }
 
 abbrev pub together_plan : Bool → Bool → LocationPlan → EditPlan → BodyPlan
-together_plan isLocated is_certain (Locations.Text p) (Edits.Text pieces) = Text (body_of isLocated is_certain p pieces)
-together_plan isLocated is_certain (Locations.Text p) Edits.NoText = NoText
-together_plan isLocated is_certain Locations.NoText pieces = NoText
+together_plan isLocated is_certain (Some p) (Some pieces) = Some (body_of isLocated is_certain p pieces)
+together_plan isLocated is_certain (Some p) None = None
+together_plan isLocated is_certain None pieces = None
 
 -- a word and nothing else
 abbrev pub word_body : Word → BodyPlan
-word_body word = Text (record { location = lone_location no_end; opening = Nothing; edit = word_alone word; closing = Nothing })
+word_body word = Some (record { location = lone_location no_end; opening = None; edit = word_alone word; closing = None })
 
 module _ (s : List ℕ) where
   unfoldable pub plan_ordinary : Location → Bool → ProteinEdit → BodyPlan
   plan_ordinary l is_certain e =
       cond (is_barred s l is_certain e)
-      (Text (body_of l.certain is_certain (met01_location l.start.aa) (word_alone Question)))
+      (Some (body_of l.certain is_certain (met01_location l.start.aa) (word_alone Question)))
       (together_plan l.certain is_certain (plan_location s Prot l) (plan_protein_edit s e))
 
   abbrev pub plan_mu_protein : Location → MuProteinEdit → BodyPlan

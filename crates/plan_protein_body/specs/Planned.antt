@@ -1,5 +1,5 @@
 -- The text of a planned protein body is that of its canonical tree; and there is none where it has none.
-use Rattle.std.specs.Prelude.{ℕ, ◌≡◌, Bool, ◌&&◌}
+use Rattle.std.specs.Prelude.{ℕ, ◌≡◌, Bool, ◌&&◌, None, Some}
 use Rattle.std.proofs.Math.Path.{refl}
 use Rattle.std.proofs.Common.{sym, ap, ◌∙◌}
 use mathlib.Core.List.{List, [], ◌++◌, append-nil, append_assoc}
@@ -37,21 +37,17 @@ use Rattle.emit_edit.specs.Texts.{edit_text}
 use Rattle.emit_location.specs.LocationLengths.{no_end_lem}
 use Rattle.emit_word.specs.declared.Word.{Word}
 use Rattle.emit_word.specs.declared.Word.TheVariants.{Equal, Question, Met1, NoProtein, NoProteinUncertain, NoChangeUncertain}
-use Rattle.emit_piece.specs.declared.OneByte.{OneByte}
+use Rattle.emit_piece.specs.Named.{OneByte}
 use Rattle.emit_location.specs.declared.LocationPieces.{LocationPieces}
 use Rattle.emit_edit.specs.declared.EditPieces.{EditPieces}
 use Rattle.emit_word.specs.Words.{word_text}
 use Rattle.plan_edits.specs.EditPlans as R
 use Rattle.plan_edits.specs.EditPlans.{word_alone}
 use Rattle.plan_edits.specs.PlanTexts.{word_alone_lem}
-use Rattle.plan_edits.specs.declared.EditPlan.{EditPlan}
-use Rattle.plan_edits.specs.declared.EditPlan.TheVariants as Edits
+use Rattle.plan_edits.specs.Named.{EditPlan}
 use Rattle.emit_draft.specs.Texts.{body_text}
 use Rattle.any_location_same.specs.Same.{same_position}
-use Rattle.plan_location.specs.declared.PositionPlan.{PositionPlan}
-use Rattle.plan_location.specs.declared.PositionPlan.TheVariants as PositionPlans
-use Rattle.plan_location.specs.declared.LocationPlan.{LocationPlan}
-use Rattle.plan_location.specs.declared.LocationPlan.TheVariants as Locations
+use Rattle.plan_location.specs.Named.{PositionPlan, LocationPlan}
 use Rattle.plan_location.specs.Plan.{location_plan, position_plan, plan_location}
 use Rattle.plan_location.specs.Planned as L
 use Rattle.plan_location.specs.Planned.{mu_of}
@@ -89,14 +85,14 @@ module _ (s : List ℕ) where
 
   -- ---- the ends of a location, without its brackets
   abbrev plan_bare : LocationPlan → Option (List ℕ)
-  plan_bare Locations.NoText = none
-  plan_bare (Locations.Text p) = some (bare_text p)
+  plan_bare None = none
+  plan_bare (Some p) = some (bare_text p)
 
   bare_location : (is_certain : Bool) (x : PositionPlan) (m : OneByte) (y : PositionPlan) → plan_bare (location_plan is_certain x m y) ≡ L.plan_text s (location_plan true x m y)
   unfolding location_text
-  bare_location is_certain PositionPlans.NoText m y = refl
-  bare_location is_certain (PositionPlans.Text e) m PositionPlans.NoText = refl
-  bare_location is_certain (PositionPlans.Text e) m (PositionPlans.Text f) = rw (append-nil (position_text s f))
+  bare_location is_certain None m y = refl
+  bare_location is_certain (Some e) m None = refl
+  bare_location is_certain (Some e) m (Some f) = rw (append-nil (position_text s f))
 
   abbrev surely : Location → Location
   surely l = record { certain = true; start = l.start; end = l.end }
@@ -124,13 +120,13 @@ module _ (s : List ℕ) where
 
   together_text : (isLocated is_certain : Bool) (i : EndsV Prot) (v : ProteinEditV) (x : LocationPlan) (y : EditPlan) (o : Option (Ends Prot)) (u : Option Tree.ProteinEditTree) → plan_bare x ≡ map_o (print_ends Prot) o → R.plan_text s y ≡ map_o print_protein_edit u
       → plan_text s (together_plan isLocated is_certain x y) ≡ map_o print_protein_body (both_o (joined (mu_of isLocated i) (mu_of is_certain v)) o u)
-  together_text l c i v Locations.NoText y none u e f = refl
-  together_text l c i v Locations.NoText y (some a) u e f = absurd (none_some e)
-  together_text l c i v (Locations.Text p) y none u e f = absurd (none_some (sym e))
-  together_text l c i v (Locations.Text p) Edits.NoText (some a) none e f = refl
-  together_text l c i v (Locations.Text p) Edits.NoText (some a) (some b) e f = absurd (none_some f)
-  together_text l c i v (Locations.Text p) (Edits.Text pieces) (some a) none e f = absurd (none_some (sym f))
-  together_text l c i v (Locations.Text p) (Edits.Text pieces) (some a) (some b) e f =
+  together_text l c i v None y none u e f = refl
+  together_text l c i v None y (some a) u e f = absurd (none_some e)
+  together_text l c i v (Some p) y none u e f = absurd (none_some (sym e))
+  together_text l c i v (Some p) None (some a) none e f = refl
+  together_text l c i v (Some p) None (some a) (some b) e f = absurd (none_some f)
+  together_text l c i v (Some p) (Some pieces) (some a) none e f = absurd (none_some (sym f))
+  together_text l c i v (Some p) (Some pieces) (some a) (some b) e f =
       let g : bare_text p ≡ print_ends Prot a = cc in
       let h : edit_text s pieces ≡ print_protein_edit b = cc in
       ap some (body_text_lem l c p pieces i v a b g h)

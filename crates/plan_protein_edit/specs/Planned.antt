@@ -1,5 +1,5 @@
 -- The text of planned pieces is that of the edit's canonical tree.
-use Rattle.std.specs.Prelude.{ℕ, ◌≡◌, refl, Bool, true, false, cond, ◌&&◌, ℤ, nat_abs}
+use Rattle.std.specs.Prelude.{ℕ, ◌≡◌, refl, Bool, true, false, cond, ◌&&◌, ℤ, nat_abs, None, Some}
 use Prim.Native.Char.{code}
 use Rattle.std.proofs.Common.{sym, ap, ◌∙◌}
 use mathlib.Core.List.{List, [], ◌++◌, append-nil}
@@ -9,10 +9,9 @@ use Rattle.numerals.specs.Digits.{dec}
 use Rattle.numerals.specs.Written.{unsigned_digits, negated_digits}
 use Rattle.residue.specs.Residues.{is_residues}
 use Rattle.record.specs.declared.Span.{Span}
-use Rattle.record.specs.declared.Part.{Part}
-use Rattle.record.specs.declared.Part.TheVariants as Pa
+use Rattle.record.specs.Named.{Part}
 use Rattle.record.specs.declared.UncertainLengthChange.{UncertainLengthChange}
-use Rattle.record.specs.declared.UncertainLengthChange.TheVariants.{None, Unknown, Known}
+use Rattle.record.specs.declared.UncertainLengthChange.TheVariants.{None as NoLength, Unknown, Known}
 use Rattle.record.specs.declared.ProteinEdit.{ProteinEdit}
 use Rattle.record.specs.declared.ProteinEdit.TheVariants as Pr
 use Rattle.grammar.specs.Spans.{part, optional_part}
@@ -25,15 +24,13 @@ use Rattle.lang.specs.Canon.{map_o, both_o}
 use Rattle.lang_protein_edits.specs.Canon.{canon_length, canon_stop, canon_fs_end, canon_earlier, canon_ext_end, canon_protein_edit}
 use Rattle.emit_word.specs.declared.Word.{Word}
 use Rattle.emit_word.specs.declared.Word.TheVariants.{Empty, Del, Ins, DelIns, Dup, Fs, Ext, Equal}
-use Rattle.emit_piece.specs.declared.OneByte.{OneByte}
-use Rattle.emit_piece.specs.declared.OneByte.TheVariants.{Nothing, Byte}
+use Rattle.emit_piece.specs.Named.{OneByte}
 use Rattle.emit_edit.specs.declared.EditPieces.{EditPieces}
 use Rattle.emit_word.specs.Words.{word_text}
 use Rattle.emit_piece.specs.Texts.{no_span, byte_text, amount_text}
 use Rattle.emit_edit.specs.Texts.{edit_text}
 use Rattle.emit_piece.specs.PartLengths.{no_part}
 use Rattle.plan_edits.specs.EditPlans.{plan_text, edit_if, letters_edit, is_unsigned}
-use Rattle.plan_edits.specs.declared.EditPlan.TheVariants.{Text}
 use Rattle.plan_edits.specs.PlanTexts.{letters_text, word_text_lem, word_alone_lem, either, pieces_text, edit_if_lem, unsigned_digits_lem}
 use Rattle.plan_protein_tests.specs.Tests.{is_negated, is_terminal, is_optional_part, is_subst}
 use Rattle.plan_protein_tests.specs.Found.{Found, Found.yes, Found.no, found_if, found_map, terminal_found, itself, negated_found, subst_found}
@@ -52,7 +49,7 @@ abbrev length_text : UncertainLengthChange → List ℕ
 length_text n = amount_text (amount_of n) ++ word_text (joint_of n)
 
 length_found : (n : UncertainLengthChange) → Found print_length (length_text n) (is_length n) (canon_length n)
-length_found None = yes unsaid refl
+length_found NoLength = yes unsaid refl
 length_found Unknown = yes unknown refl
 length_found (Known z) = rw (append-nil (dec (nat_abs z))) (found_map itself print_length counted itself (λ ds. refl) (unsigned_found z))
 
@@ -66,13 +63,13 @@ stop_found w n = both_found (terminal_found w) (length_found n)
 
 -- the end of `ext` without `-`
 abbrev later_end : Option (List ℕ) → UncertainLengthChange → Option ExtEnd
-later_end none None = some nothing
+later_end none NoLength = some nothing
 later_end none Unknown = none
 later_end none (Known z) = none
 later_end (some w) n = map_o later (canon_stop w n)
 
 ext_end : (q : Option (List ℕ)) (n : UncertainLengthChange) → canon_ext_end q n ≡ or_next (later_end q n) (canon_earlier q n)
-ext_end none None = refl
+ext_end none NoLength = refl
 ext_end none Unknown = refl
 ext_end none (Known z) = refl
 ext_end (some w) n = refl
@@ -80,23 +77,23 @@ ext_end (some w) n = refl
 module _ (s : List ℕ) where
   -- ---- the ends of `fs` and `ext`
   fs_found : (t : Part) (n : UncertainLengthChange) → Found print_fs_end (part s (span_of t) ++ length_text n) (is_stop s t n) (canon_fs_end (optional_part s t) n)
-  fs_found Pa.Absent None = yes none (rw (no_part s))
-  fs_found Pa.Absent Unknown = no
-  fs_found Pa.Absent (Known z) = no
-  fs_found (Pa.Present p) n = found_map print_stop print_fs_end some itself (λ e. refl) (stop_found (part s p) n)
+  fs_found None NoLength = yes none (rw (no_part s))
+  fs_found None Unknown = no
+  fs_found None (Known z) = no
+  fs_found (Some p) n = found_map print_stop print_fs_end some itself (λ e. refl) (stop_found (part s p) n)
 
   later_found : (t : Part) (n : UncertainLengthChange) → Found print_ext_end (part s (span_of t) ++ length_text n) (is_stop s t n) (later_end (optional_part s t) n)
-  later_found Pa.Absent None = yes nothing (rw (no_part s))
-  later_found Pa.Absent Unknown = no
-  later_found Pa.Absent (Known z) = no
-  later_found (Pa.Present p) n = found_map print_stop print_ext_end later itself (λ e. refl) (stop_found (part s p) n)
+  later_found None NoLength = yes nothing (rw (no_part s))
+  later_found None Unknown = no
+  later_found None (Known z) = no
+  later_found (Some p) n = found_map print_stop print_ext_end later itself (λ e. refl) (stop_found (part s p) n)
 
   optional_text : (r : Part) → print_optional [] (optional_part s r) ≡ part s (span_of r)
-  optional_text Pa.Absent = rw (no_part s)
-  optional_text (Pa.Present p) = refl
+  optional_text None = rw (no_part s)
+  optional_text (Some p) = refl
 
   earlier_found : (t : Part) (n : UncertainLengthChange) → Found print_ext_end (part s (span_of t) ++ (ascii "-" ++ length_text n)) (is_earlier s t n) (canon_earlier (optional_part s t) n)
-  earlier_found t None = no
+  earlier_found t NoLength = no
   earlier_found t Unknown = no
   earlier_found t (Known z) = go (is_optional_part s t) refl
     where
@@ -120,7 +117,7 @@ module _ (s : List ℕ) where
     found_pieces pieces e (yes a f) = ap some (e ∙ sym f)
     found_pieces pieces e no = refl
 
-    next_pieces : {x y : List ℕ} {b c : Bool} {o u : Option A} (first second : EditPieces) → edit_text s first ≡ x → edit_text s second ≡ y → Found print x b o → Found print y c u → plan_text s (cond b (Text first) (edit_if c second)) ≡ map_o print (or_next o u)
+    next_pieces : {x y : List ℕ} {b c : Bool} {o u : Option A} (first second : EditPieces) → edit_text s first ≡ x → edit_text s second ≡ y → Found print x b o → Found print y c u → plan_text s (cond b (Some first) (edit_if c second)) ≡ map_o print (or_next o u)
     next_pieces first second e f (yes a g) h = ap some (e ∙ sym g)
     next_pieces first second e f no h = found_pieces second f h
 
@@ -128,7 +125,7 @@ module _ (s : List ℕ) where
   unfolding plan_fs
   fs_planned r t n =
       either s print_protein_edit (is_optional_part s r) _ _ _ _
-      (λ h. found_pieces print_protein_edit (end_pieces r Fs t Nothing n) (end_text r Fs t Nothing n)
+      (λ h. found_pieces print_protein_edit (end_pieces r Fs t None n) (end_text r Fs t None n)
       (found_map print_fs_end print_protein_edit (fs (optional_part s r)) (λ e. print_optional [] (optional_part s r) ++ (ascii "fs" ++ e)) (λ e. refl) (fs_found t n)))
       (λ h. refl)
 
@@ -137,7 +134,7 @@ module _ (s : List ℕ) where
   ext_planned r t n =
       rw (ext_end (optional_part s t) n, map_next (ext (optional_part s r)) (later_end (optional_part s t) n) (canon_earlier (optional_part s t) n))
       (either s print_protein_edit (is_optional_part s r) _ _ _ _
-      (λ h. next_pieces print_protein_edit (end_pieces r Ext t Nothing n) (end_pieces r Ext t (Byte (code "-")) n) (end_text r Ext t Nothing n) (end_text r Ext t (Byte (code "-")) n) (behind (later_found t n)) (behind (earlier_found t n)))
+      (λ h. next_pieces print_protein_edit (end_pieces r Ext t None n) (end_pieces r Ext t (Some (code "-")) n) (end_text r Ext t None n) (end_text r Ext t (Some (code "-")) n) (behind (later_found t n)) (behind (earlier_found t n)))
       (λ h. refl))
     where
       behind : {text : List ℕ} {b : Bool} {o : Option ExtEnd} → Found print_ext_end text b o → Found print_protein_edit (print_optional [] (optional_part s r) ++ (ascii "ext" ++ text)) b (map_o (ext (optional_part s r)) o)

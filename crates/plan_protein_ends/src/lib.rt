@@ -2,13 +2,11 @@
 #![tactic(auto)]
 
 ghost use Rattle.std.specs.Prelude.{◌≡◌};
-ghost use Rattle.alphabet.specs.Cells.{IsTable};
 ghost use Rattle.plan_protein_ends.specs.EndPlans.{span_of, amount_of, joint_of, end_pieces, is_length, is_none, is_terminal_with, is_stop, is_earlier, plan_fs, plan_ext};
 
 use emit_edit::EditPieces;
 use emit_piece::{Amount, OneByte};
 use emit_word::Word;
-use plan_edits::EditPlan;
 use record::{Part, Span, UncertainLengthChange};
 
 // ---- what the pieces are
@@ -16,10 +14,7 @@ use record::{Part, Span, UncertainLengthChange};
 fn span_of(p: Part) -> Span
     ensures { result ≡ span_of p }
 {
-    match p {
-        Part::Absent => plan_edits::NO_SPAN,
-        Part::Present(p) => p,
-    }
+    p.unwrap_or(plan_edits::NO_SPAN)
 }
 
 // A length: its digits, or `?`, or nothing.
@@ -27,9 +22,8 @@ fn amount_of(n: UncertainLengthChange) -> Amount
     ensures { result ≡ amount_of n }
 {
     match n {
-        UncertainLengthChange::None => Amount::Absent,
-        UncertainLengthChange::Unknown => Amount::Absent,
-        UncertainLengthChange::Known(z) => Amount::Count(emit_number::magnitude(z)),
+        UncertainLengthChange::None | UncertainLengthChange::Unknown => None,
+        UncertainLengthChange::Known(z) => Some(emit_number::magnitude(z)),
     }
 }
 
@@ -37,9 +31,8 @@ fn joint_of(n: UncertainLengthChange) -> Word
     ensures { result ≡ joint_of n }
 {
     match n {
-        UncertainLengthChange::None => Word::Empty,
         UncertainLengthChange::Unknown => Word::Question,
-        UncertainLengthChange::Known(_) => Word::Empty,
+        UncertainLengthChange::None | UncertainLengthChange::Known(_) => Word::Empty,
     }
 }
 
@@ -69,8 +62,7 @@ fn is_length(n: UncertainLengthChange) -> bool
     ensures { result ≡ is_length n }
 {
     match n {
-        UncertainLengthChange::None => true,
-        UncertainLengthChange::Unknown => true,
+        UncertainLengthChange::None | UncertainLengthChange::Unknown => true,
         UncertainLengthChange::Known(z) => plan_edits::is_unsigned(z),
     }
 }
@@ -78,20 +70,13 @@ fn is_length(n: UncertainLengthChange) -> bool
 fn is_none(n: UncertainLengthChange) -> bool
     ensures { result ≡ is_none n }
 {
-    match n {
-        UncertainLengthChange::None => true,
-        UncertainLengthChange::Unknown => false,
-        UncertainLengthChange::Known(_) => false,
-    }
+    matches!(n, UncertainLengthChange::None)
 }
 
 fn is_terminal_with(source: &[u8], p: Span, n: UncertainLengthChange) -> bool
     ensures { result ≡ is_terminal_with source.now p n }
 {
-    if plan_protein_tests::is_terminal(parts::part_of(source, p)) {
-        return is_length(n);
-    }
-    false
+    plan_protein_tests::is_terminal(parts::part_of(source, p)) && is_length(n)
 }
 
 // A terminal with a length, or neither.
@@ -99,67 +84,57 @@ fn is_stop(source: &[u8], end: Part, n: UncertainLengthChange) -> bool
     ensures { result ≡ is_stop source.now end n }
 {
     match end {
-        Part::Absent => is_none(n),
-        Part::Present(p) => is_terminal_with(source, p, n),
+        None => is_none(n),
+        Some(p) => is_terminal_with(source, p, n),
     }
 }
 
 // A residue or none, with `-` and a number.
-fn is_earlier(table: &[u8; 256], source: &[u8], end: Part, n: UncertainLengthChange) -> bool
-    requires { IsTable table.now }
+fn is_earlier(source: &[u8], end: Part, n: UncertainLengthChange) -> bool
     ensures { result ≡ is_earlier source.now end n }
 {
     match n {
-        UncertainLengthChange::None => false,
-        UncertainLengthChange::Unknown => false,
+        UncertainLengthChange::None | UncertainLengthChange::Unknown => false,
         UncertainLengthChange::Known(z) => {
-            if plan_protein_tests::is_optional(table, source, end) {
-                return plan_protein_tests::is_negated(z);
-            }
-            false
+            plan_protein_tests::is_optional(source, end) && plan_protein_tests::is_negated(z)
         }
     }
 }
 
 // ---- plans
 
+#[tactic(auto, unfolding(crate::specs::EndPlans::plan_fs))]
 pub fn plan_fs(
-    table: &[u8; 256],
     source: &[u8],
     residue: Part,
     end: Part,
     n: UncertainLengthChange,
-) -> EditPlan
-    requires { IsTable table.now }
+) -> Option<EditPieces>
     ensures { result ≡ plan_fs source.now residue end n }
 {
-    if !plan_protein_tests::is_optional(table, source, residue) {
-        return EditPlan::NoText;
-    }
     plan_edits::edit_if(
-        is_stop(source, end, n),
-        end_pieces(residue, Word::Fs, end, OneByte::Nothing, n),
+        plan_protein_tests::is_optional(source, residue) && is_stop(source, end, n),
+        end_pieces(residue, Word::Fs, end, None, n),
     )
 }
 
+#[tactic(auto, unfolding(crate::specs::EndPlans::plan_ext))]
 pub fn plan_ext(
-    table: &[u8; 256],
     source: &[u8],
     residue: Part,
     end: Part,
     n: UncertainLengthChange,
-) -> EditPlan
-    requires { IsTable table.now }
+) -> Option<EditPieces>
     ensures { result ≡ plan_ext source.now residue end n }
 {
-    if !plan_protein_tests::is_optional(table, source, residue) {
-        return EditPlan::NoText;
+    if !plan_protein_tests::is_optional(source, residue) {
+        None
+    } else if is_stop(source, end, n) {
+        Some(end_pieces(residue, Word::Ext, end, None, n))
+    } else {
+        plan_edits::edit_if(
+            is_earlier(source, end, n),
+            end_pieces(residue, Word::Ext, end, Some(b'-'), n),
+        )
     }
-    if is_stop(source, end, n) {
-        return EditPlan::Text(end_pieces(residue, Word::Ext, end, OneByte::Nothing, n));
-    }
-    plan_edits::edit_if(
-        is_earlier(table, source, end, n),
-        end_pieces(residue, Word::Ext, end, OneByte::Byte(b'-'), n),
-    )
 }

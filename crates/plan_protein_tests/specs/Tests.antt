@@ -6,7 +6,7 @@ use Rattle.numerals.specs.Reading.{fits}
 use Rattle.numerals.specs.declared.Sign.TheVariants.{Negated}
 use Rattle.residue.specs.Residues.{is_residue}
 use Rattle.record.specs.declared.Span.{Span}
-use Rattle.record.specs.declared.Part.{Part}
+use Rattle.record.specs.Named.{Part}
 use Rattle.grammar.specs.Spans.{part, optional_part}
 use Rattle.lang_protein_edits.specs.Canon.{is_optional}
 

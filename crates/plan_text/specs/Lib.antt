@@ -1,2 +1,3 @@
+pub mod Named
 pub mod Plan
 pub mod Planned

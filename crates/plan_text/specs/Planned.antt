@@ -1,5 +1,5 @@
 -- What is planned for a record is the text that is wanted, the canonical text of its changed content; and nothing where no text reads as the record.
-use Rattle.std.specs.Prelude.{ℕ, ◌≤◌, ◌≡◌, true, cond, length}
+use Rattle.std.specs.Prelude.{ℕ, ◌≤◌, ◌≡◌, true, cond, length, None, Some, Ok, Err}
 use Rattle.std.proofs.Math.Path.{refl, ap}
 use Rattle.std.proofs.Common.{sym}
 use mathlib.Core.List.{List, ◌++◌, append-nil, append_assoc}
@@ -7,8 +7,7 @@ use Rattle.std.proofs.Math.Option.{Option, none, some}
 use Rattle.texts.specs.Ascii.{ascii}
 use Rattle.texts.proofs.Tests.{none_some}
 use Rattle.record.specs.declared.Span.{Span}
-use Rattle.record.specs.declared.Part.{Part}
-use Rattle.record.specs.declared.Part.TheVariants.{Absent, Present}
+use Rattle.record.specs.Named.{Part}
 use Rattle.record.specs.declared.Kind.{Kind}
 use Rattle.record.specs.declared.Kind.TheVariants.{Cds, Genome, Mt, Tx, Prot, Rna}
 use Rattle.record.specs.declared.Body as Declared
@@ -43,14 +42,12 @@ use Rattle.emit_draft.specs.declared.Draft.{Draft}
 use Rattle.emit_draft.specs.Texts.{heading_text, body_text, draft_text}
 use Rattle.plan_header.specs.HeaderText.{is_some, header_text}
 use Rattle.plan_header.specs.Headings.{heading_with, heading_of}
-use Rattle.plan_na_body.specs.declared.BodyPlan.{BodyPlan}
-use Rattle.plan_na_body.specs.declared.BodyPlan.TheVariants as Bodies
+use Rattle.plan_na_body.specs.Named.{BodyPlan}
 use Rattle.plan_na_body.specs.Planned as BodyPlans
 use Rattle.plan_na_body.specs.Planned.{planned_na}
 use Rattle.plan_protein_body.specs.Plan.{plan_protein_body}
 use Rattle.plan_protein_body.specs.Planned.{planned_protein}
-use Rattle.plan_text.specs.declared.TextPlan.{TextPlan}
-use Rattle.plan_text.specs.declared.TextPlan.TheVariants.{Refused, Text as Planned}
+use Rattle.plan_text.specs.Named.{TextPlan}
 use Rattle.plan_text.specs.Plan.{any_kind, drafted_plan, plan_any, text_plan}
 
 abbrev kind_of : Declared.Body → Kind
@@ -77,8 +74,8 @@ module _ (s : List ℕ) where
   -- ---- the heading
   gene_text : (a k : List ℕ) (gene : Part) (kind : Kind) → print_kind kind ≡ k → (p : Span) → part s p ≡ a → heading_text s (heading_with p gene kind) ≡ (a ++ print_gene (optional_part s gene)) ++ k
   unfolding heading_text
-  gene_text a k Absent kind e p f = rw (no_part s, e, f, append-nil a)
-  gene_text a k (Present g) kind e p f = rw (e, f) (go a (part s g) k)
+  gene_text a k None kind e p f = rw (no_part s, e, f, append-nil a)
+  gene_text a k (Some g) kind e p f = rw (e, f) (go a (part s g) k)
     where
       go : (x y z : List ℕ) → x ++ (ascii "(" ++ (y ++ (ascii ")" ++ z))) ≡ (x ++ (ascii "(" ++ (y ++ ascii ")"))) ++ z
       go x y z = simp append_assoc refl
@@ -115,18 +112,18 @@ module _ (s : List ℕ) where
 
   -- ---- both
   abbrev plan_text : TextPlan → Option (List ℕ)
-  plan_text (Refused r) = none
-  plan_text (Planned d) = some (draft_text s d)
+  plan_text (Err r) = none
+  plan_text (Ok d) = some (draft_text s d)
 
   module _ (k : Kind) (a : List ℕ) (gene : Option (List ℕ)) (heading : Heading) where
     whole : (o : Option HeaderTree) (p : BodyPlan) (u : Option (BodyTree k)) → map_o print_header o ≡ cond (is_some o) (some (a ++ print_gene gene)) none → heading_text s heading ≡ (a ++ print_gene gene) ++ print_kind k → BodyPlans.plan_text s p ≡ map_o (print_body k) u
-        → plan_text (cond (is_some o) (drafted_plan heading p) (Refused NoText)) ≡ map_o print (both_o (λ x y. text x k y) o u)
+        → plan_text (cond (is_some o) (drafted_plan heading p) (Err NoText)) ≡ map_o print (both_o (λ x y. text x k y) o u)
     unfolding draft_text
     whole none p u g i j = refl
-    whole (some x) Bodies.NoText none g i j = refl
-    whole (some x) Bodies.NoText (some y) g i j = absurd (none_some j)
-    whole (some x) (Bodies.Text b) none g i j = absurd (none_some (sym j))
-    whole (some x) (Bodies.Text b) (some y) g i j =
+    whole (some x) None none g i j = refl
+    whole (some x) None (some y) g i j = absurd (none_some j)
+    whole (some x) (Some b) none g i j = absurd (none_some (sym j))
+    whole (some x) (Some b) (some y) g i j =
         let m : print_header x ≡ a ++ print_gene gene = cc in
         let n : body_text s b ≡ print_body k y = cc in
         ap some (rw (i, n, m) (append_assoc (a ++ print_gene gene) (print_kind k) (print_body k y)))
@@ -144,10 +141,10 @@ module _ (s : List ℕ) where
 
     -- the checks on source and record
     module _ (short : length s ≤ limit) (isIn : spans_inside (length s) v ≡ true) where
-      pub unsound_plan : (r : Refusal) → text_plan s w v.header (any_body v.body) ≡ Refused r → Unsound all_letters s v 5
+      pub unsound_plan : (r : Refusal) → text_plan s w v.header (any_body v.body) ≡ Err r → Unsound all_letters s v 5
       unsound_plan r e = Unsound.no_text short isIn (worded_none all_letters alphabets w (content s v) (unprinted (worded_text all_letters alphabets w (content s v)) (rw e at planned)))
 
-      pub sound_plan : (d : Draft) → text_plan s w v.header (any_body v.body) ≡ Planned d → Sound all_letters s v × Wanted all_letters w (content s v) (draft_text s d)
+      pub sound_plan : (d : Draft) → text_plan s w v.header (any_body v.body) ≡ Ok d → Sound all_letters s v × Wanted all_letters w (content s v) (draft_text s d)
       sound_plan d e =
           let m = map_some print (worded_text all_letters alphabets w (content s v)) (draft_text s d) (sym (rw e at planned)) in
           let f = worded_some all_letters alphabets w (content s v) m.0 m.1.0 in

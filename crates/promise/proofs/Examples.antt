@@ -1,10 +1,8 @@
 -- Document 01's tables row by row: the number and place of each answer, reference-free edits, widths at the edges.
-use Rattle.std.specs.Prelude.{ℕ, refl, List, [], ◌∷◌}
+use Rattle.std.specs.Prelude.{ℕ, refl, List, [], ◌∷◌, Ok}
 use Rattle.texts.specs.Words.{same}
 use Rattle.texts.specs.Tables.{Each}
 use Rattle.texts.proofs.Tables.{Agree, agreed}
-use Rattle.record.specs.declared.GenomePos.TheVariants as G
-use Rattle.record.specs.declared.MtPos.TheVariants as Mt
 use Rattle.record.specs.declared.MuCdsInterval.TheVariants as MuCds
 use Rattle.record.specs.declared.MuGenomeInterval.TheVariants as MuGenome
 use Rattle.record.specs.declared.MuMtInterval.TheVariants as MuMt
@@ -17,9 +15,6 @@ use Rattle.record.specs.declared.Body.TheVariants as Bo
 use Rattle.record.specs.declared.HgvsVariant.{HgvsVariant}
 use Rattle.record.specs.declared.Refusal.{Refusal}
 use Rattle.record.specs.declared.Refusal.TheVariants.{TooLong, NotInGrammar, DoesNotFit, BadSpan, NoText, NoRoom, NoWidth, BadLine}
-use Rattle.record.specs.declared.ReadAnswer.TheVariants as R
-use Rattle.record.specs.declared.WriteAnswer.TheVariants as W
-use Rattle.record.specs.declared.WidthAnswer.TheVariants as M
 use Rattle.promise.specs.Outcome.{refusal_outcome, read_outcome, write_outcome, width_outcome}
 use Rattle.promise.specs.Width.{width_between}
 use Rattle.promise.specs.Examples.{told, values, no_refs, widths}
@@ -31,9 +26,9 @@ module _ (v : HgvsVariant) (place : ℕ) where
 
   abbrev pub outcomes : List ((ℕ × ℕ) × (ℕ × ℕ))
   outcomes =
-      (told (read_outcome (R.Accepted v)), (0, 0)) ∷
-      (told (write_outcome (W.Written 15)), (0, 0)) ∷
-      (told (width_outcome (M.Width 3)), (0, 0)) ∷
+      (told (read_outcome (Ok v)), (0, 0)) ∷
+      (told (write_outcome (Ok 15)), (0, 0)) ∷
+      (told (width_outcome (Ok 3)), (0, 0)) ∷
       (refused_with TooLong, (1, 0)) ∷
       (refused_with NotInGrammar, (2, 0)) ∷
       (refused_with (DoesNotFit place), (3, place)) ∷

@@ -1,5 +1,5 @@
 -- No second answer fits.
-use Rattle.std.specs.Prelude.{ℕ, ◌≡◌, refl, List, ◌++◌, Bool, cond, eqb, length, drop}
+use Rattle.std.specs.Prelude.{ℕ, ◌≡◌, refl, List, ◌++◌, Bool, cond, eqb, length, drop, Ok, Err}
 use Rattle.std.proofs.Common.{sym, ap, ◌∙◌, arith}
 use Rattle.std.proofs.Math.Option.{some}
 use Rattle.texts.proofs.Tests.{clash, none_some}
@@ -8,12 +8,7 @@ use Rattle.record.specs.declared.Kind.TheVariants.{Cds, Genome, Mt, Tx, Prot, Rn
 use Rattle.record.specs.declared.HgvsVariant.{HgvsVariant}
 use Rattle.record.specs.declared.Refusal.{Refusal}
 use Rattle.record.specs.declared.Refusal.TheVariants.{TooLong, NotInGrammar, DoesNotFit, BadSpan, NoText, NoRoom, NoWidth, BadLine}
-use Rattle.record.specs.declared.ReadAnswer.{ReadAnswer}
-use Rattle.record.specs.declared.ReadAnswer.TheVariants as R
-use Rattle.record.specs.declared.WriteAnswer.{WriteAnswer}
-use Rattle.record.specs.declared.WriteAnswer.TheVariants as W
-use Rattle.record.specs.declared.WidthAnswer.{WidthAnswer}
-use Rattle.record.specs.declared.WidthAnswer.TheVariants as M
+use Rattle.record.specs.Named.{ReadAnswer, WriteAnswer, WidthAnswer}
 use Rattle.grammar.specs.Header.{print_header, WfHeader}
 use Rattle.grammar.specs.Shapes.{Both.both}
 use Rattle.grammar.specs.Bodies.{print_location, WfLocation}
@@ -61,29 +56,29 @@ module _ {A B : Type 0} (ofGiven : A → B) (ofRefusal : Refusal → B) where
   injective : (outcome : B → Outcome A) → ((b : B) → answer_of (outcome b) ≡ b) → (b c : B) → outcome b ≡ outcome c → b ≡ c
   injective outcome back b c e = sym (back b) ∙ ap answer_of e ∙ back c
 
-read_back : (a : ReadAnswer) → answer_of R.Accepted R.Refused (read_outcome a) ≡ a
+read_back : (a : ReadAnswer) → answer_of Ok Err (read_outcome a) ≡ a
 unfolding answer_of
-read_back (R.Accepted v) = refl
-read_back (R.Refused r) = ap R.Refused (refusal_called r)
+read_back (Ok v) = refl
+read_back (Err r) = ap Err (refusal_called r)
 
-write_back : (a : WriteAnswer) → answer_of W.Written W.Refused (write_outcome a) ≡ a
+write_back : (a : WriteAnswer) → answer_of Ok Err (write_outcome a) ≡ a
 unfolding answer_of
-write_back (W.Written n) = refl
-write_back (W.Refused r) = ap W.Refused (refusal_called r)
+write_back (Ok n) = refl
+write_back (Err r) = ap Err (refusal_called r)
 
-width_back : (a : WidthAnswer) → answer_of M.Width M.Refused (width_outcome a) ≡ a
+width_back : (a : WidthAnswer) → answer_of Ok Err (width_outcome a) ≡ a
 unfolding answer_of
-width_back (M.Width n) = refl
-width_back (M.Refused r) = ap M.Refused (refusal_called r)
+width_back (Ok n) = refl
+width_back (Err r) = ap Err (refusal_called r)
 
 pub same_read : (a b : ReadAnswer) → read_outcome a ≡ read_outcome b → a ≡ b
-same_read = injective R.Accepted R.Refused read_outcome read_back
+same_read = injective Ok Err read_outcome read_back
 
 pub same_written : (a b : WriteAnswer) → write_outcome a ≡ write_outcome b → a ≡ b
-same_written = injective W.Written W.Refused write_outcome write_back
+same_written = injective Ok Err write_outcome write_back
 
 pub same_width : (a b : WidthAnswer) → width_outcome a ≡ width_outcome b → a ≡ b
-same_width = injective M.Width M.Refused width_outcome width_back
+same_width = injective Ok Err width_outcome width_back
 
 module _ (letters : Kind → ℕ → Bool) where
   -- ---- reading, where the grammar is unambiguous

@@ -1,17 +1,12 @@
 -- Document 01's tables row by row: the number and place of each answer, reference-free edits, widths at the edges.
-use Rattle.std.specs.Prelude.{ℕ, List, [], ◌∷◌, ℤ, pos, negsuc}
+use Rattle.std.specs.Prelude.{ℕ, List, [], ◌∷◌, ℤ, pos, negsuc, None, Some, Ok, Err}
 use Rattle.std.proofs.Math.Option.{Option, none, some}
 use Rattle.texts.specs.Ascii.{ascii}
 use Rattle.record.specs.declared.Span.{Span}
-use Rattle.record.specs.declared.Offset.{Offset}
-use Rattle.record.specs.declared.Offset.TheVariants.{Absent, By}
+use Rattle.record.specs.Named.{Offset, GenomePos, MtPos}
 use Rattle.record.specs.declared.CdsFrom.{CdsFrom}
 use Rattle.record.specs.declared.CdsFrom.TheVariants.{Start, End}
 use Rattle.record.specs.declared.CdsPos.{CdsPos}
-use Rattle.record.specs.declared.GenomePos.{GenomePos}
-use Rattle.record.specs.declared.GenomePos.TheVariants as G
-use Rattle.record.specs.declared.MtPos.{MtPos}
-use Rattle.record.specs.declared.MtPos.TheVariants as Mt
 use Rattle.record.specs.declared.MuCdsInterval.TheVariants as MuCds
 use Rattle.record.specs.declared.MuGenomeInterval.TheVariants as MuGenome
 use Rattle.record.specs.declared.MuMtInterval.TheVariants as MuMt
@@ -27,9 +22,6 @@ use Rattle.record.specs.declared.ProtLocEdit.TheVariants.{Ordinary, NoChange, No
 use Rattle.record.specs.declared.Body.{Body}
 use Rattle.record.specs.declared.Body.TheVariants as Bo
 use Rattle.record.specs.declared.Refusal.TheVariants.{NoRoom, NoWidth}
-use Rattle.record.specs.declared.ReadAnswer.TheVariants as R
-use Rattle.record.specs.declared.WriteAnswer.TheVariants as W
-use Rattle.record.specs.declared.WidthAnswer.TheVariants as M
 use Rattle.grammar.specs.Shapes.{Mu.uncertain, print_mu}
 use Rattle.grammar.specs.Values.{NaEditV.ref_alt, NaEditV.num_alt, NaEditV.del_ref, NaEditV.del_num, NaEditV.ins_v, NaEditV.dup_v, NaEditV.inv_ref, NaEditV.inv_num}
 use Rattle.promise.specs.Outcome.{Outcome, outcome_number, outcome_place, outcome_value, write_outcome, width_outcome, limit}
@@ -43,10 +35,10 @@ told o = (outcome_number o, outcome_place o)
 -- lengths and widths, none of a refusal; the most bytes of a text
 abbrev pub values : List (ℕ × ℕ)
 values =
-    (outcome_value (write_outcome (W.Written 15)), 15) ∷
-    (outcome_value (write_outcome (W.Refused NoRoom)), 0) ∷
-    (outcome_value (width_outcome (M.Width 3)), 3) ∷
-    (outcome_value (width_outcome (M.Refused NoWidth)), 0) ∷
+    (outcome_value (write_outcome (Ok 15)), 15) ∷
+    (outcome_value (write_outcome (Err NoRoom)), 0) ∷
+    (outcome_value (width_outcome (Ok 3)), 3) ∷
+    (outcome_value (width_outcome (Err NoWidth)), 0) ∷
     (limit, 4096) ∷
     []
 
@@ -103,24 +95,24 @@ on_prot a b =
 
 abbrev pub widths : List (Option ℕ × Option ℕ)
 widths =
-    (body_width (on_cds (cds_at Start (pos 76) Absent) (cds_at Start (pos 76) Absent)), some 1) ∷
-    (body_width (on_cds (cds_at End (pos 3) Absent) (cds_at End (pos 5) Absent)), some 3) ∷
-    (body_width (on_cds (cds_at Start (pos 77) Absent) (cds_at Start (pos 76) Absent)), none) ∷
-    (body_width (on_cds (cds_at Start (pos 3) Absent) (cds_at End (pos 5) Absent)), none) ∷
-    (body_width (on_cds (cds_at End (pos 3) Absent) (cds_at Start (pos 5) Absent)), none) ∷
-    (body_width (on_cds (cds_at Start (pos 3) (By (pos 0))) (cds_at Start (pos 5) Absent)), none) ∷
-    (body_width (on_cds (cds_at Start (pos 3) Absent) (cds_at Start (pos 5) (By (pos 0)))), none) ∷
-    (body_width (on_genome (G.At (pos 0)) (G.At (pos 2147483647))), some 2147483648) ∷
-    (body_width (on_genome G.Unknown (G.At (pos 5))), none) ∷
-    (body_width (on_genome (G.At (pos 5)) G.Unknown), none) ∷
-    (body_width (on_genome G.Unknown G.Unknown), none) ∷
-    (body_width (on_mt (Mt.At (pos 0)) (Mt.At (pos 2))), some 3) ∷
-    (body_width (on_mt (Mt.At (pos 5)) (Mt.At (pos 3))), none) ∷
-    (body_width (on_mt Mt.Unknown (Mt.At (pos 5))), none) ∷
-    (body_width (on_tx (negsuc 1) Absent (pos 3) Absent), some 5) ∷
-    (body_width (on_tx (negsuc 1) (By (pos 1)) (pos 3) Absent), none) ∷
-    (body_width (on_rna (negsuc 1) Absent (pos 3) Absent), some 5) ∷
-    (body_width (on_rna (negsuc 1) Absent (pos 3) (By (negsuc 0))), none) ∷
+    (body_width (on_cds (cds_at Start (pos 76) None) (cds_at Start (pos 76) None)), some 1) ∷
+    (body_width (on_cds (cds_at End (pos 3) None) (cds_at End (pos 5) None)), some 3) ∷
+    (body_width (on_cds (cds_at Start (pos 77) None) (cds_at Start (pos 76) None)), none) ∷
+    (body_width (on_cds (cds_at Start (pos 3) None) (cds_at End (pos 5) None)), none) ∷
+    (body_width (on_cds (cds_at End (pos 3) None) (cds_at Start (pos 5) None)), none) ∷
+    (body_width (on_cds (cds_at Start (pos 3) (Some (pos 0))) (cds_at Start (pos 5) None)), none) ∷
+    (body_width (on_cds (cds_at Start (pos 3) None) (cds_at Start (pos 5) (Some (pos 0)))), none) ∷
+    (body_width (on_genome (Some (pos 0)) (Some (pos 2147483647))), some 2147483648) ∷
+    (body_width (on_genome None (Some (pos 5))), none) ∷
+    (body_width (on_genome (Some (pos 5)) None), none) ∷
+    (body_width (on_genome None None), none) ∷
+    (body_width (on_mt (Some (pos 0)) (Some (pos 2))), some 3) ∷
+    (body_width (on_mt (Some (pos 5)) (Some (pos 3))), none) ∷
+    (body_width (on_mt None (Some (pos 5))), none) ∷
+    (body_width (on_tx (negsuc 1) None (pos 3) None), some 5) ∷
+    (body_width (on_tx (negsuc 1) (Some (pos 1)) (pos 3) None), none) ∷
+    (body_width (on_rna (negsuc 1) None (pos 3) None), some 5) ∷
+    (body_width (on_rna (negsuc 1) None (pos 3) (Some (negsuc 0))), none) ∷
     (body_width (on_prot (pos 0) (pos 3)), some 4) ∷
     (body_width (on_prot (pos 5) (pos 2)), none) ∷
     (body_width (Bo.Prot NoChange), none) ∷
@@ -130,14 +122,14 @@ widths =
     (body_width (Bo.Prot Unknown), none) ∷
     (body_width (Bo.Prot InitiationUncertain), none) ∷
     -- request 2: from -1 to 1, from the least base to the last, from 0, to 0
-    (body_width (on_cds (cds_at Start (negsuc 0) Absent) (cds_at Start (pos 1) Absent)), some 2) ∷
-    (body_width (about_cds (cds_at Start (negsuc 0) Absent) (cds_at Start (pos 1) Absent)), some 2) ∷
-    (body_width (on_cds (cds_at Start (negsuc 2147483647) Absent) (cds_at Start (pos 2147483647) Absent)), some 4294967295) ∷
-    (body_width (on_cds (cds_at Start (negsuc 4) Absent) (cds_at Start (negsuc 2) Absent)), some 3) ∷
-    (body_width (on_cds (cds_at Start (pos 0) Absent) (cds_at Start (pos 0) Absent)), none) ∷
-    (body_width (on_cds (cds_at Start (pos 0) Absent) (cds_at Start (pos 1) Absent)), none) ∷
-    (body_width (on_cds (cds_at Start (negsuc 0) Absent) (cds_at Start (pos 0) Absent)), none) ∷
-    (body_width (on_cds (cds_at End (pos 0) Absent) (cds_at End (pos 5) Absent)), none) ∷
-    (body_width (on_tx (pos 0) Absent (pos 0) Absent), none) ∷
-    (body_width (on_rna (pos 0) Absent (pos 0) Absent), none) ∷
+    (body_width (on_cds (cds_at Start (negsuc 0) None) (cds_at Start (pos 1) None)), some 2) ∷
+    (body_width (about_cds (cds_at Start (negsuc 0) None) (cds_at Start (pos 1) None)), some 2) ∷
+    (body_width (on_cds (cds_at Start (negsuc 2147483647) None) (cds_at Start (pos 2147483647) None)), some 4294967295) ∷
+    (body_width (on_cds (cds_at Start (negsuc 4) None) (cds_at Start (negsuc 2) None)), some 3) ∷
+    (body_width (on_cds (cds_at Start (pos 0) None) (cds_at Start (pos 0) None)), none) ∷
+    (body_width (on_cds (cds_at Start (pos 0) None) (cds_at Start (pos 1) None)), none) ∷
+    (body_width (on_cds (cds_at Start (negsuc 0) None) (cds_at Start (pos 0) None)), none) ∷
+    (body_width (on_cds (cds_at End (pos 0) None) (cds_at End (pos 5) None)), none) ∷
+    (body_width (on_tx (pos 0) None (pos 0) None), none) ∷
+    (body_width (on_rna (pos 0) None (pos 0) None), none) ∷
     []

@@ -1,14 +1,9 @@
 -- Document 01, "Numbers given back": the number and place of each refusal, and what each answer carries.
-use Rattle.std.specs.Prelude.{ℕ}
+use Rattle.std.specs.Prelude.{ℕ, Ok, Err}
 use Rattle.record.specs.declared.HgvsVariant.{HgvsVariant}
 use Rattle.record.specs.declared.Refusal.{Refusal}
 use Rattle.record.specs.declared.Refusal.TheVariants.{TooLong, NotInGrammar, DoesNotFit, BadSpan, NoText, NoRoom, NoWidth, BadLine}
-use Rattle.record.specs.declared.ReadAnswer.{ReadAnswer}
-use Rattle.record.specs.declared.ReadAnswer.TheVariants as R
-use Rattle.record.specs.declared.WriteAnswer.{WriteAnswer}
-use Rattle.record.specs.declared.WriteAnswer.TheVariants as W
-use Rattle.record.specs.declared.WidthAnswer.{WidthAnswer}
-use Rattle.record.specs.declared.WidthAnswer.TheVariants as M
+use Rattle.record.specs.Named.{ReadAnswer, WriteAnswer, WidthAnswer}
 
 -- what is given; or a refusal's number and place, and no record, length or width
 pub data Outcome (A : Type 0) : Type 0 where
@@ -45,16 +40,16 @@ abbrev pub refusal_outcome : {A : Type 0} → Refusal → Outcome A
 refusal_outcome r = refused (number_and_place r).0 (number_and_place r).1
 
 abbrev pub read_outcome : ReadAnswer → Outcome HgvsVariant
-read_outcome (R.Accepted v) = given v
-read_outcome (R.Refused r) = refusal_outcome r
+read_outcome (Ok v) = given v
+read_outcome (Err r) = refusal_outcome r
 
 abbrev pub write_outcome : WriteAnswer → Outcome ℕ
-write_outcome (W.Written length) = given length
-write_outcome (W.Refused r) = refusal_outcome r
+write_outcome (Ok length) = given length
+write_outcome (Err r) = refusal_outcome r
 
 abbrev pub width_outcome : WidthAnswer → Outcome ℕ
-width_outcome (M.Width width) = given width
-width_outcome (M.Refused r) = refusal_outcome r
+width_outcome (Ok width) = given width
+width_outcome (Err r) = refusal_outcome r
 
 -- the most bytes of a text or source
 abbrev pub limit : ℕ

@@ -1,17 +1,11 @@
 -- Document 01, "Width", and document 02, request 2: what measuring a record answers. Checks 1 (source), 4, 5, 7.
-use Rattle.std.specs.Prelude.{ℕ, zero, suc, ◌-◌, ◌≡◌, List, Bool, cond, ℤ, pos, negsuc, nat_abs, ◌-ℤ◌}
+use Rattle.std.specs.Prelude.{ℕ, zero, suc, ◌-◌, ◌≡◌, List, Bool, cond, ℤ, pos, negsuc, nat_abs, ◌-ℤ◌, None, Some}
 use Rattle.std.proofs.Math.Option.{Option, none, some}
 use Rattle.std.specs.Int.Signed.{le_z}
 use Rattle.record.specs.declared.Kind.{Kind}
-use Rattle.record.specs.declared.Offset.{Offset}
-use Rattle.record.specs.declared.Offset.TheVariants.{Absent, By}
+use Rattle.record.specs.Named.{Offset, CdsInterval, GenomePos, MtPos}
 use Rattle.record.specs.declared.CdsFrom.{CdsFrom}
 use Rattle.record.specs.declared.CdsFrom.TheVariants.{Start, End}
-use Rattle.record.specs.declared.CdsInterval.{CdsInterval}
-use Rattle.record.specs.declared.GenomePos.{GenomePos}
-use Rattle.record.specs.declared.GenomePos.TheVariants as G
-use Rattle.record.specs.declared.MtPos.{MtPos}
-use Rattle.record.specs.declared.MtPos.TheVariants as M
 use Rattle.record.specs.declared.MuCdsInterval.{MuCdsInterval}
 use Rattle.record.specs.declared.MuCdsInterval.TheVariants as MuCds
 use Rattle.record.specs.declared.MuGenomeInterval.{MuGenomeInterval}
@@ -49,16 +43,16 @@ base_index (pos (suc n)) = some (pos n)
 
 -- of an end that no offset goes with
 abbrev pub unshifted : Option ℤ → Offset → Option ℤ
-unshifted index Absent = index
-unshifted index (By n) = none
+unshifted index None = index
+unshifted index (Some n) = none
 
 abbrev pub genome_number : GenomePos → Option ℤ
-genome_number G.Unknown = none
-genome_number (G.At n) = some n
+genome_number None = none
+genome_number (Some n) = some n
 
 abbrev pub mt_number : MtPos → Option ℤ
-mt_number M.Unknown = none
-mt_number (M.At n) = some n
+mt_number None = none
+mt_number (Some n) = some n
 
 -- both ends have one anchor
 abbrev pub anchored : CdsFrom → CdsFrom → Option ℕ → Option ℕ

@@ -1,4 +1,6 @@
 -- What was counted, as the parser's answers say it. A part `&s[k..]` is `take (length s - k) (drop k s)`.
+use Rattle.std.specs.Prelude as Prelude
+use Rattle.std.specs.Prelude.{None, Some}
 use Prim.Native.Nat.{ℕ, suc, ◌+◌, ◌-◌, ◌≤◌, ◌<◌}
 use mathlib.Core.Path.{◌≡◌, refl, sym}
 use mathlib.Core.List.{List, [], ◌∷◌, ◌++◌}
@@ -10,23 +12,21 @@ use lib.Dec.{eqb}
 use lib.ListN.{length, take, drop, get_or, length-append, length-drop}
 use borrow.Author.Tests.{ne_eqb}
 use Rattle.texts.specs.Ascii.{ascii}
-use Rattle.texts.specs.Runs.{Some}
+use Rattle.texts.specs.Runs.{Some as NotEmpty}
 use Rattle.texts.proofs.Tests.{and_false}
 use Rattle.texts.proofs.Slices.{tail_part}
 use Rattle.texts.specs.Words.{starts}
 use Rattle.alphabet.specs.Letters.{alphanumeric}
 use Rattle.record.specs.declared.Span.{Span}
-use Rattle.record.specs.declared.Part.TheVariants.{Absent, Present}
 use Rattle.grammar.specs.Optional.{WfOptional}
 use Rattle.grammar.specs.Header.{Accession, Accession.accession, print_accession, print_gene}
+use Rattle.record.specs.declared.Header.{Header}
 use Rattle.grammar.specs.Records.{span, part_of}
 use Rattle.lang.proofs.Lang.{front_within}
 use Rattle.lang_headers.specs.Optionals.{parse_optional}
 use Rattle.lang_headers.specs.Parse.{parse_accession, closed, parse_gene, headed, parse_header}
 use Rattle.lang_headers.proofs.Sound.{gene_front}
 use Rattle.lang_headers.specs.Kinds.{first_kind, parse_kind}
-use Rattle.read_header.specs.declared.HeaderRead.{HeaderRead}
-use Rattle.read_header.specs.declared.HeaderRead.TheVariants.{Nothing, Found}
 use Rattle.header_lengths.specs.Lengths.{optional_length, accession_length, accession_le}
 use Rattle.read_header.specs.HeaderAnswers.{gene_length, header_answer, kind_of}
 
@@ -56,11 +56,11 @@ module _ (s : List ℕ) {n : ℕ} (e : n ≡ optional_length (ascii "(") (parse_
 
 -- ---- the header
 module _ (s : List ℕ) {n : ℕ} (e : n ≡ accession_length (parse_accession s)) where
-  pub no_header : (at : ℕ) → n ≡ 0 → Nothing ≡ header_answer at (parse_header s)
+  pub no_header : (at : ℕ) → n ≡ 0 → None ≡ header_answer at (parse_header s)
   unfolding parse_header header_answer
   no_header at z = go (parse_accession s) e
     where
-      go : (o : Option Accession) → n ≡ accession_length o → Nothing ≡ header_answer at (headed s o)
+      go : (o : Option Accession) → n ≡ accession_length o → None ≡ header_answer at (headed s o)
       go none k = refl
       go (some (accession b name suffix version)) k = absurd (omega arith)
 
@@ -76,8 +76,8 @@ module _ (s : List ℕ) {n : ℕ} (e : n ≡ accession_length (parse_accession s
         go (some x) q l = omega (arith, length-append x (ascii ")"), length-drop n s, accession_le s e)
 
     module _ (at : ℕ) {p : Span} (ep : p ≡ span at n) where
-      abbrev answer_with : Option (List ℕ) → HeaderRead
-      answer_with o = Found (record { accession = p; gene_symbol = part_of (at + n + 1) o }) (n + length (print_gene o))
+      abbrev answer_with : Option (List ℕ) → Prelude.Option (Header × ℕ)
+      answer_with o = Some (record { accession = p; gene_symbol = part_of (at + n + 1) o }, (n + length (print_gene o)))
 
       header_is : answer_with (parse_gene (drop n s)) ≡ header_answer at (parse_header s)
       unfolding parse_header header_answer
@@ -87,17 +87,17 @@ module _ (s : List ℕ) {n : ℕ} (e : n ≡ accession_length (parse_accession s
           go none k = absurd (h k)
           go (some t) k = rw (ep, k, length-append (print_accession t) (print_gene (parse_gene (drop (length (print_accession t)) s))))
 
-      pub header_alone : g ≡ 0 → Found (record { accession = p; gene_symbol = Absent }) n ≡ header_answer at (parse_header s)
+      pub header_alone : g ≡ 0 → Some (record { accession = p; gene_symbol = None }, n) ≡ header_answer at (parse_header s)
       header_alone z = go (parse_gene (drop n s)) found_gene (gene_front (drop n s)).wf header_is
         where
-          go : (o : Option (List ℕ)) → g ≡ gene_length o → WfOptional (Some alphanumeric) o → answer_with o ≡ header_answer at (parse_header s) → Found (record { accession = p; gene_symbol = Absent }) n ≡ header_answer at (parse_header s)
+          go : (o : Option (List ℕ)) → g ≡ gene_length o → WfOptional (NotEmpty alphanumeric) o → answer_with o ≡ header_answer at (parse_header s) → Some (record { accession = p; gene_symbol = None }, n) ≡ header_answer at (parse_header s)
           go none q w r = rw add-zero at r
           go (some x) q w r = absurd (omega (arith, w.some))
 
-      pub header_gene : (g ≡ 0 → ⊥) → {q : Span} → q ≡ span (at + n + 1) g → Found (record { accession = p; gene_symbol = Present q }) (n + 1 + g + 1) ≡ header_answer at (parse_header s)
+      pub header_gene : (g ≡ 0 → ⊥) → {q : Span} → q ≡ span (at + n + 1) g → Some (record { accession = p; gene_symbol = Some q }, (n + 1 + g + 1)) ≡ header_answer at (parse_header s)
       header_gene k {q} eq = go (parse_gene (drop n s)) found_gene header_is
         where
-          go : (o : Option (List ℕ)) → g ≡ gene_length o → answer_with o ≡ header_answer at (parse_header s) → Found (record { accession = p; gene_symbol = Present q }) (n + 1 + g + 1) ≡ header_answer at (parse_header s)
+          go : (o : Option (List ℕ)) → g ≡ gene_length o → answer_with o ≡ header_answer at (parse_header s) → Some (record { accession = p; gene_symbol = Some q }, (n + 1 + g + 1)) ≡ header_answer at (parse_header s)
           go none j r = absurd (k j)
           go (some x) j r =
               let l : n + 1 + g + 1 ≡ n + length (ascii "(" ++ (x ++ ascii ")")) = omega (arith, length-append x (ascii ")")) in

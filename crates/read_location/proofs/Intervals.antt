@@ -25,7 +25,9 @@ use Rattle.grammar.specs.Meaning.{sign_of}
 use Rattle.grammar.specs.Numbers.{position_numbers}
 use Rattle.lang.proofs.Lang.{within}
 use Rattle.lang.specs.IntervalLang.{parse_interval}
-use Rattle.read_scan.specs.Accounts.{answered}
+use Rattle.std.specs.Prelude.{None}
+use Rattle.read_scan.specs.declared.Found.{Found}
+use Rattle.read_scan.specs.Accounts.{found, answered}
 use Rattle.read_scan.specs.declared.Faults.{Faults}
 use Rattle.read_scan.specs.Faults.{faults, first, settled_if, faults_append, settled_only}
 use Rattle.lang_locations.specs.Parse.{parse_position}
@@ -34,8 +36,6 @@ use Rattle.lang_locations.specs.Equal.{eqℤ}
 use Rattle.lang_locations.proofs.Equal.{machine_equal}
 use Rattle.lang_locations.specs.Settled.{number_in}
 use Rattle.any_location.specs.declared.Position.{Position}
-use Rattle.read_position.specs.declared.PositionRead.TheVariants as PR
-use Rattle.read_location.specs.declared.LocationRead.TheVariants.{Nothing, Found}
 use Rattle.read_position.specs.Told.{PositionTold, position_unread}
 use Rattle.any_location.specs.OfTree.{position_of, interval_of}
 use Rattle.read_position.specs.PositionAnswers.{position_answer}
@@ -62,24 +62,24 @@ number_fits Prot (residual r ds) = or_zero_fits Unsigned (val ds)
 number_fits Rna (based m ds o) = or_zero_fits (sign_of m) (val ds)
 
 module _ (k : Kind) (at : ℕ) (s : List ℕ) where
-  pub interval_none : PR.Nothing ≡ position_answer k at (parse_position k s) → Nothing ≡ interval_answer k at ((ends_lang k).parse s)
+  pub interval_none : None ≡ position_answer k at (parse_position k s) → None ≡ interval_answer k at ((ends_lang k).parse s)
   unfolding parse_interval answered
   interval_none e = rw (position_unread k at s e)
 
   -- where t stands first
   module _ (t : Tree.PositionTree k) (q : parse_position k s ≡ some t) where
     one_is : starts (ascii "_") (drop (length (print_position k t)) s) ≡ false
-        → Found (interval_of k true at (one t)) (length (print_position k t)) (faults (position_numbers k at t) true) ≡ interval_answer k at ((ends_lang k).parse s)
+        → found (interval_of k true at (one t)) (length (print_position k t)) (faults (position_numbers k at t) true) ≡ interval_answer k at ((ends_lang k).parse s)
     unfolding parse_interval answered
     one_is j = rw (q, j)
 
     module _ (j : starts (ascii "_") (drop (length (print_position k t)) s) ≡ true) where
-      half_is : parse_position k (drop 1 (drop (length (print_position k t)) s)) ≡ none → Nothing ≡ interval_answer k at ((ends_lang k).parse s)
+      half_is : parse_position k (drop 1 (drop (length (print_position k t)) s)) ≡ none → None ≡ interval_answer k at ((ends_lang k).parse s)
       unfolding parse_interval answered
       half_is h = rw (q, j, h)
 
       two_is : (u : Tree.PositionTree k) → parse_position k (drop 1 (drop (length (print_position k t)) s)) ≡ some u
-          → Found (interval_of k true at (two t u)) (length (print_position k t) + 1 + length (print_position k u)) (settled_if (not (eqℤ (number_in k t) (number_in k u))) (first (faults (position_numbers k at t) true) (faults (position_numbers k (at + length (print_position k t) + 1) u) true))) ≡ interval_answer k at ((ends_lang k).parse s)
+          → found (interval_of k true at (two t u)) (length (print_position k t) + 1 + length (print_position k u)) (settled_if (not (eqℤ (number_in k t) (number_in k u))) (first (faults (position_numbers k at t) true) (faults (position_numbers k (at + length (print_position k t) + 1) u) true))) ≡ interval_answer k at ((ends_lang k).parse s)
       unfolding parse_interval answered
       two_is u h =
           let l : length (print_position k t) + 1 + length (print_position k u) ≡ length (print_position k t ++ (ascii "_" ++ print_position k u)) = simp length-append (omega arith) in
@@ -88,43 +88,43 @@ module _ (k : Kind) (at : ℕ) (s : List ℕ) where
           rw (q, j, h, l, ← faults_append ms ns true true, settled_only (not (eqℤ (number_in k t) (number_in k u))) (ms ++ ns))
 
 -- what was read first
-module _ (k : Kind) {at : ℕ} {s : List ℕ} {p : Position} {n : ℕ} {f : Faults} (a : PositionTold k at s p n f) where
-  pub start_le : n ≤ length s
+module _ (k : Kind) {at : ℕ} {s : List ℕ} {x : Found Position} (a : PositionTold k at s x) where
+  pub start_le : x.len ≤ length s
   start_le = omega (arith, a.long, within (pos_lang k) s a.tree a.parsed)
 
-  rest_is : take (length s - n) (drop n s) ≡ drop (length (print_position k a.tree)) s
+  rest_is : take (length s - x.len) (drop x.len s) ≡ drop (length (print_position k a.tree)) s
   rest_is = tail_at s a.long
 
-  pub interval_one : starts (ascii "_") (take (length s - n) (drop n s)) ≡ false → Found (record { certain = true; start = p; end = p }) n f ≡ interval_answer k at ((ends_lang k).parse s)
+  pub interval_one : starts (ascii "_") (take (length s - x.len) (drop x.len s)) ≡ false → found (record { certain = true; start = x.value; end = x.value }) x.len x.faults ≡ interval_answer k at ((ends_lang k).parse s)
   interval_one j = cc (one_is k at s a.tree a.parsed (sym (ap (starts (ascii "_")) rest_is) ∙ j))
 
-  module _ (j : starts (ascii "_") (take (length s - n) (drop n s)) ≡ true) where
+  module _ (j : starts (ascii "_") (take (length s - x.len) (drop x.len s)) ≡ true) where
     joined : starts (ascii "_") (drop (length (print_position k a.tree)) s) ≡ true
     joined = sym (ap (starts (ascii "_")) rest_is) ∙ j
 
-    pub join_le : n + 1 ≤ length s
-    join_le = omega (arith, starts_length (ascii "_") (drop n s) (rw (tail_part n s) at j), length-drop n s, start_le)
+    pub join_le : x.len + 1 ≤ length s
+    join_le = omega (arith, starts_length (ascii "_") (drop x.len s) (rw (tail_part x.len s) at j), length-drop x.len s, start_le)
 
-    next_is : take (length s - (n + 1)) (drop (n + 1) s) ≡ drop 1 (drop (length (print_position k a.tree)) s)
+    next_is : take (length s - (x.len + 1)) (drop (x.len + 1) s) ≡ drop 1 (drop (length (print_position k a.tree)) s)
     next_is = tail_beyond 1 s a.long
 
-    pub interval_half : PR.Nothing ≡ position_answer k (at + (n + 1)) (parse_position k (take (length s - (n + 1)) (drop (n + 1) s))) → Nothing ≡ interval_answer k at ((ends_lang k).parse s)
-    interval_half h = half_is k at s a.tree a.parsed joined (ap (parse_position k) (sym next_is) ∙ position_unread k (at + (n + 1)) _ h)
+    pub interval_half : None ≡ position_answer k (at + (x.len + 1)) (parse_position k (take (length s - (x.len + 1)) (drop (x.len + 1) s))) → None ≡ interval_answer k at ((ends_lang k).parse s)
+    interval_half h = half_is k at s a.tree a.parsed joined (ap (parse_position k) (sym next_is) ∙ position_unread k (at + (x.len + 1)) _ h)
 
     -- what was read behind the bar
-    module _ {u : Position} {m : ℕ} {g : Faults} (b : PositionTold k (at + (n + 1)) (take (length s - (n + 1)) (drop (n + 1) s)) u m g) where
-      pub end_le : n + 1 + m ≤ length s
+    module _ {y : Found Position} (b : PositionTold k (at + (x.len + 1)) (take (length s - (x.len + 1)) (drop (x.len + 1) s)) y) where
+      pub end_le : x.len + 1 + y.len ≤ length s
       end_le =
-          let y = take (length s - (n + 1)) (drop (n + 1) s) in
-          let w : length y ≡ length s - (n + 1) = rw (tail_part (n + 1) s) (length-drop (n + 1) s) in
-          omega (arith, b.long, within (pos_lang k) y b.tree b.parsed, join_le)
+          let r = take (length s - (x.len + 1)) (drop (x.len + 1) s) in
+          let w : length r ≡ length s - (x.len + 1) = rw (tail_part (x.len + 1) s) (length-drop (x.len + 1) s) in
+          omega (arith, b.long, within (pos_lang k) r b.tree b.parsed, join_le)
 
-      pub interval_two : (x y : Faults) → x ≡ first f g → y ≡ settled_if (not (eqb (of_z w32 p.number) (of_z w32 u.number))) x → Found (record { certain = true; start = p; end = u }) (n + 1 + m) y ≡ interval_answer k at ((ends_lang k).parse s)
-      interval_two x y ex ey =
-          let number : p.number ≡ number_in k a.tree = ap (λ (v : Position). v.number) a.means ∙ number_in_lem k at a.tree in
-          let other : u.number ≡ number_in k b.tree = ap (λ (v : Position). v.number) b.means ∙ number_in_lem k (at + (n + 1)) b.tree in
-          let test : eqb (of_z w32 p.number) (of_z w32 u.number) ≡ eqℤ (number_in k a.tree) (number_in k b.tree) = rw (number, other) (machine_equal _ _ (number_fits k a.tree) (number_fits k b.tree)) in
-          let place : at + (n + 1) ≡ at + length (print_position k a.tree) + 1 = omega (arith, a.long) in
-          let means : u ≡ position_of k (at + length (print_position k a.tree) + 1) b.tree = b.means ∙ ap (λ (i : ℕ). position_of k i b.tree) place in
-          let wrong : g ≡ faults (position_numbers k (at + length (print_position k a.tree) + 1) b.tree) true = b.wrong ∙ ap (λ (i : ℕ). faults (position_numbers k i b.tree) true) place in
+      pub interval_two : (f g : Faults) → f ≡ first x.faults y.faults → g ≡ settled_if (not (eqb (of_z w32 x.value.number) (of_z w32 y.value.number))) f → found (record { certain = true; start = x.value; end = y.value }) (x.len + 1 + y.len) g ≡ interval_answer k at ((ends_lang k).parse s)
+      interval_two f g ef eg =
+          let number : x.value.number ≡ number_in k a.tree = ap (λ (v : Position). v.number) a.means ∙ number_in_lem k at a.tree in
+          let other : y.value.number ≡ number_in k b.tree = ap (λ (v : Position). v.number) b.means ∙ number_in_lem k (at + (x.len + 1)) b.tree in
+          let test : eqb (of_z w32 x.value.number) (of_z w32 y.value.number) ≡ eqℤ (number_in k a.tree) (number_in k b.tree) = rw (number, other) (machine_equal _ _ (number_fits k a.tree) (number_fits k b.tree)) in
+          let place : at + (x.len + 1) ≡ at + length (print_position k a.tree) + 1 = omega (arith, a.long) in
+          let means : y.value ≡ position_of k (at + length (print_position k a.tree) + 1) b.tree = b.means ∙ ap (λ (i : ℕ). position_of k i b.tree) place in
+          let wrong : y.faults ≡ faults (position_numbers k (at + length (print_position k a.tree) + 1) b.tree) true = b.wrong ∙ ap (λ (i : ℕ). faults (position_numbers k i b.tree) true) place in
           cc (two_is k at s a.tree a.parsed joined b.tree (ap (parse_position k) (sym next_is) ∙ b.parsed))

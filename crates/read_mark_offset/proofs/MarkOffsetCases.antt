@@ -1,4 +1,5 @@
 -- The clauses of the parsers of a mark and an offset, by the tests that the program makes, and the answer for each.
+use Rattle.std.specs.Prelude.{None, Some}
 use Prim.Native.Nat.{ℕ, suc, ◌+◌, ◌-◌, ◌≤◌}
 use Prim.Native.Char.{code}
 use mathlib.Core.Path.{◌≡◌, refl, sym, ◌∙◌}
@@ -20,23 +21,19 @@ use Rattle.numerals.specs.declared.Sign.{Sign}
 use Rattle.numerals.specs.declared.Sign.TheVariants.{Unsigned, Minus}
 use Rattle.numerals.specs.declared.Number.{Number}
 use Rattle.numerals.specs.Reading.{number_at}
-use Rattle.record.specs.declared.Offset.TheVariants.{Absent, By}
 use Rattle.grammar.specs.Positions.{Mark.bare, Mark.plus, Mark.minus, Mark.star, OffsetTree, OffsetTree.absent, OffsetTree.ahead, OffsetTree.back}
 use Rattle.grammar.specs.Meaning.{number}
 use Rattle.grammar.specs.Numbers.{Numeral.numeral}
+use Rattle.record.specs.Named.{Offset}
 use Rattle.read_scan.specs.declared.Faults.{Faults}
+use Rattle.read_scan.specs.declared.Found.{Found}
 use Rattle.read_scan.specs.Reading.{number_run, number_value, number_faults}
-use Rattle.read_scan.specs.Faults.{faults, none as noFault, of_number, faults_nil}
+use Rattle.read_scan.specs.Accounts.{plain}
+use Rattle.read_scan.specs.Faults.{faults, of_number, faults_nil}
 use Rattle.lang_locations.specs.Parse.{on_digits, parse_mark, parse_offset}
-use Rattle.read_mark_offset.specs.declared.OffsetRead.{OffsetRead}
 use Rattle.read_mark_offset.specs.MarkOffsetAnswers.{above_signs, mark_of, offset_answer, offset_behind}
 
 -- ---- the first byte
-pub none_below : (s : List ℕ) → length s ≡ 0 → false ≡ above_signs s
-unfolding above_signs
-none_below [] e = refl
-none_below (b ∷ s) e = absurd (omega arith)
-
 -- none of the bytes up to `-` stands there
 no_sign : (c : ℕ) (s : List ℕ) → c ≤ code "-" → above_signs s ≡ true → starts (c ∷ []) s ≡ false
 unfolding above_signs starts
@@ -65,9 +62,9 @@ module _ (s : List ℕ) where
   mark_above h = mark_bare (no_sign (code "+") s (omega arith) h) (no_sign (code "-") s (omega arith) h) (no_sign (code "*") s (omega arith) h)
 
 -- ---- offsets
-pub offset_none : (at : ℕ) (f : Faults) → f ≡ noFault → ◌≡◌ {A = OffsetRead} (record { offset = Absent; len = 0; faults = f }) (offset_answer at absent)
+pub offset_none : (at : ℕ) → plain None 0 ≡ offset_answer at absent
 unfolding offset_answer
-offset_none at f e = rw (e, faults_nil)
+offset_none at = rw faults_nil refl
 
 -- s stands behind the sign
 module _ (at : ℕ) (sign : Sign) (s : List ℕ) (n : Number) (e : n ≡ number_at sign s) where
@@ -76,7 +73,7 @@ module _ (at : ℕ) (sign : Sign) (s : List ℕ) (n : Number) (e : n ≡ number_
   behind_none z = rw (eq-eqb (run digit s) 0 (sym (number_run sign s n e) ∙ z))
 
   pub behind_some : (n.len ≡ 0 → ⊥) → (f : Faults) → f ≡ of_number n.fits n.plain (at + 1)
-      → ◌≡◌ {A = OffsetRead} (record { offset = By (to_z w32 (of_z w32 n.value)); len = 1 + n.len; faults = f }) (offset_behind at sign s)
+      → ◌≡◌ {A = Found Offset} (record { value = Some (to_z w32 (of_z w32 n.value)); len = 1 + n.len; faults = f }) (offset_behind at sign s)
   unfolding offset_behind
   behind_some z f ef =
       let l = number_run sign s n e in
@@ -84,12 +81,12 @@ module _ (at : ℕ) (sign : Sign) (s : List ℕ) (n : Number) (e : n ≡ number_
 
 -- what stands behind the sign, as an offset
 behind_by : (at : ℕ) (sign : Sign) (by : List ℕ → OffsetTree) (s : List ℕ)
-    → ((ds : List ℕ) → offset_answer at (by ds) ≡ record { offset = By (number sign ds); len = suc (length ds); faults = faults (numeral (at + 1) sign ds ∷ []) true })
+    → ((ds : List ℕ) → offset_answer at (by ds) ≡ record { value = Some (number sign ds); len = suc (length ds); faults = faults (numeral (at + 1) sign ds ∷ []) true })
     → offset_behind at sign s ≡ offset_answer at (on_digits absent by s)
 unfolding offset_behind on_digits
 behind_by at sign by s is = go (eqb (run digit s) 0)
   where
-    go : (t : Bool) → cond t (offset_answer at absent) (record { offset = By (number sign (front digit s)); len = 1 + run digit s; faults = faults (numeral (at + 1) sign (front digit s) ∷ []) true }) ≡ offset_answer at (cond t absent (by (front digit s)))
+    go : (t : Bool) → cond t (offset_answer at absent) (record { value = Some (number sign (front digit s)); len = 1 + run digit s; faults = faults (numeral (at + 1) sign (front digit s) ∷ []) true }) ≡ offset_answer at (cond t absent (by (front digit s)))
     go true = refl
     go false = let l : 1 + run digit s ≡ suc (length (front digit s)) = omega (arith, front_length digit s) in rw (is (front digit s), l)
 

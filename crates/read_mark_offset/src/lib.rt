@@ -2,13 +2,12 @@
 #![tactic(auto)]
 
 ghost use Rattle.std.specs.Prelude.{◌≡◌, ◌+◌, ◌≤◌, length};
-ghost use Rattle.alphabet.specs.Cells.{IsTable};
 ghost use Rattle.grammar.specs.Positions.{Mark.bare, OffsetTree.absent};
 ghost use Rattle.lang_locations.specs.Parse.{parse_mark, parse_offset};
 ghost use Rattle.read_mark_offset.specs.MarkOffsetAnswers.{above_signs, mark_of, offset_answer, offset_behind};
 
 use numerals::Sign;
-use read_scan::Faults;
+use read_scan::{Faults, Found};
 use record::{CdsFrom, Offset};
 
 // What stands before the digits of a base: how long it is, and what it says.
@@ -19,22 +18,12 @@ pub struct MarkRead {
     pub cds_from: CdsFrom,
 }
 
-// The offset, how long its text is, and what is wrong with its number.
-#[derive(Clone, Copy)]
-pub struct OffsetRead {
-    pub offset: Offset,
-    pub len: usize,
-    pub faults: Faults,
-}
-
 // Whether the first byte lies above `*`, `+` and `-`. Most are digits or letters, and one test tells that they are none of these.
+#[tactic(auto, unfolding(crate::specs::MarkOffsetAnswers::above_signs))]
 fn above_signs(s: &[u8]) -> bool
     ensures { result ≡ above_signs s.now }
 {
-    if s.len() == 0 {
-        return false;
-    }
-    b'-' < s[0]
+    matches!(s, [first, ..] if b'-' < *first)
 }
 
 fn no_mark() -> MarkRead
@@ -77,44 +66,40 @@ pub fn mark_at(s: &[u8]) -> MarkRead
     no_mark()
 }
 
-fn no_offset(at: usize) -> OffsetRead
+fn no_offset(at: usize) -> Found<Offset>
     ensures { result ≡ offset_answer at absent }
 {
-    OffsetRead {
-        offset: Offset::Absent,
-        len: 0,
-        faults: read_scan::no_faults(),
-    }
+    Found::plain(None, 0)
 }
 
 // Behind the sign of an offset that stands at `at`.
-fn offset_behind(table: &[u8; 256], s: &[u8], at: usize, sign: Sign) -> OffsetRead
-    requires { (at + 1 + length s.now ≤ 4096) × IsTable table.now }
+fn offset_behind(s: &[u8], at: usize, sign: Sign) -> Found<Offset>
+    requires { at + 1 + length s.now ≤ 4096 }
     ensures { result ≡ offset_behind at sign s.now }
 {
-    let n = read_number::number_at(table, s, sign);
+    let n = read_number::number_at(s, sign);
     if n.len == 0 {
         return no_offset(at);
     }
-    OffsetRead {
-        offset: Offset::By(n.value),
+    Found {
+        value: Some(n.value),
         len: 1 + n.len,
-        faults: read_scan::faults_of(at + 1, n),
+        faults: Faults::of_number(n, at + 1),
     }
 }
 
-pub fn offset_at(table: &[u8; 256], s: &[u8], at: usize) -> OffsetRead
-    requires { (at + length s.now ≤ 4096) × IsTable table.now }
+pub fn offset_at(s: &[u8], at: usize) -> Found<Offset>
+    requires { at + length s.now ≤ 4096 }
     ensures { result ≡ offset_answer at (parse_offset s.now) }
 {
     if above_signs(s) {
         return no_offset(at);
     }
     if words::begins(s, b"+") {
-        return offset_behind(table, &s[1..], at, Sign::Unsigned);
+        return offset_behind(&s[1..], at, Sign::Unsigned);
     }
     if words::begins(s, b"-") {
-        return offset_behind(table, &s[1..], at, Sign::Minus);
+        return offset_behind(&s[1..], at, Sign::Minus);
     }
     no_offset(at)
 }

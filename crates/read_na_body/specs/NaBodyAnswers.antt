@@ -1,5 +1,6 @@
 -- What the routines give for what was found: the body with its spans, as one of any kind, and its faults.
-use Rattle.std.specs.Prelude.{ℕ, ◌+◌, ◌≡◌, length}
+use Rattle.std.specs.Prelude as Prelude
+use Rattle.std.specs.Prelude.{None, Some, ℕ, ◌+◌, ◌≡◌, length}
 use Rattle.std.proofs.Math.Path.{refl}
 use Rattle.std.proofs.Math.Option.{Option, none, some}
 use Rattle.record.specs.declared.Kind.{Kind}
@@ -8,6 +9,7 @@ use Rattle.grammar.specs.Shapes.{Both.both}
 use Rattle.grammar.specs.Bodies.{print_location, NaBody, BodyTree}
 use Rattle.grammar.specs.Records.{mu_na_edit_at, body_at}
 use Rattle.grammar.specs.Numbers.{na_body_numbers, body_numbers}
+use Rattle.read_scan.specs.declared.Faults.{Faults}
 use Rattle.read_scan.specs.Faults.{faults}
 use Rattle.lang_bodies.specs.Settled.{settled_na_body, settled_body}
 use Rattle.any_location.specs.OfTree.{location_of}
@@ -15,21 +17,19 @@ use Rattle.any_location.proofs.OfRecord.{location_any}
 use Rattle.any_body.specs.declared.AnyBody.{AnyBody}
 use Rattle.any_body.specs.declared.AnyBody.TheVariants.{Nucleotide}
 use Rattle.any_body.specs.AnyBodies.{any_body}
-use Rattle.read_na_body.specs.declared.BodyRead.{BodyRead}
-use Rattle.read_na_body.specs.declared.BodyRead.TheVariants as BR
 
 -- the body of any kind
-unfoldable pub body_answer : (k : Kind) → ℕ → Option (BodyTree k) → BodyRead
-body_answer k at none = BR.Nothing
-body_answer k at (some b) = BR.Found (any_body (body_at k at b)) (faults (body_numbers k at b) (settled_body k b))
+unfoldable pub body_answer : (k : Kind) → ℕ → Option (BodyTree k) → Prelude.Option (AnyBody × Faults)
+body_answer k at none = None
+body_answer k at (some b) = Some (any_body (body_at k at b), faults (body_numbers k at b) (settled_body k b))
 
 -- ---- nucleotide kinds
 abbrev pub na_body_of : (k : Kind) → ℕ → NaBody k → AnyBody
 na_body_of k at (both l e) = Nucleotide k (location_of k at l) (mu_na_edit_at (at + length (print_location k l)) e)
 
-unfoldable pub na_answer : (k : Kind) → ℕ → Option (NaBody k) → BodyRead
-na_answer k at none = BR.Nothing
-na_answer k at (some b) = BR.Found (na_body_of k at b) (faults (na_body_numbers k at b) (settled_na_body k b))
+unfoldable pub na_answer : (k : Kind) → ℕ → Option (NaBody k) → Prelude.Option (AnyBody × Faults)
+na_answer k at none = None
+na_answer k at (some b) = Some (na_body_of k at b, faults (na_body_numbers k at b) (settled_na_body k b))
 
 -- ---- the body of a nucleotide kind is a body
 module _ (at : ℕ) where

@@ -2,7 +2,6 @@
 #![tactic(auto)]
 
 ghost use Rattle.std.specs.Prelude.{◌≡◌, ◌+◌, ◌≤◌, length};
-ghost use Rattle.alphabet.specs.Cells.{IsTable};
 ghost use Rattle.alphabet.specs.Letters.{nucleotide};
 ghost use Rattle.lang.specs.Whole.{whole};
 ghost use Rattle.lang_na_edits.proofs.Alphabet.{nucleotides};
@@ -11,65 +10,46 @@ ghost use Rattle.read_na_body.specs.NaBodyAnswers.{na_answer};
 
 use any_body::AnyBody;
 use any_location::{Location, Position};
-use read_location::LocationRead;
-use read_na_edit::MuNaEditRead;
 use read_scan::Faults;
 use record::{Kind, Span};
-
-// A body that stands up to the end of the text, and what is wrong with its numbers.
-#[derive(Clone, Copy)]
-pub enum BodyRead {
-    Nothing,
-    Found(AnyBody, Faults),
-}
 
 // The same position and location, part by part, as `read_na_edit` rebuilds an edit.
 fn rebuilt_position(p: Position) -> Position
     ensures { result ≡ p }
 {
-    let aa = p.aa;
-    let cds_from = p.cds_from;
-    let offset = p.offset;
     Position {
         aa: Span {
-            start: aa.start,
-            end: aa.end,
+            start: p.aa.start,
+            end: p.aa.end,
         },
         number: p.number,
         unknown: p.unknown,
-        cds_from,
-        offset,
+        cds_from: p.cds_from,
+        offset: p.offset,
     }
 }
 
 fn rebuilt(l: Location) -> Location
     ensures { result ≡ l }
 {
-    let start = l.start;
-    let end = l.end;
     Location {
         certain: l.certain,
-        start: rebuilt_position(start),
-        end: rebuilt_position(end),
+        start: rebuilt_position(l.start),
+        end: rebuilt_position(l.end),
     }
 }
 
-pub fn na_body(table: &[u8; 256], kind: Kind, s: &[u8], at: usize) -> BodyRead
-    requires { (at + length s.now ≤ 4096) × IsTable table.now }
+// A body that stands up to the end of the text, and what is wrong with its numbers.
+pub fn na_body(kind: Kind, s: &[u8], at: usize) -> Option<(AnyBody, Faults)>
+    requires { at + length s.now ≤ 4096 }
     ensures { result ≡ na_answer kind at (whole (na_body_lang nucleotide nucleotides kind) s.now) }
 {
-    let LocationRead::Found(l, n, faults) = read_location::location_at(table, kind, s, at) else {
-        return BodyRead::Nothing;
-    };
-    let MuNaEditRead::Found(edit, m, later) = read_na_edit::mu_na_edit_at(table, &s[n..], at + n)
-    else {
-        return BodyRead::Nothing;
-    };
-    if n + m != s.len() {
-        return BodyRead::Nothing;
+    let location = read_location::location_at(kind, s, at)?;
+    let n = location.len;
+    let edit = read_na_edit::mu_na_edit_at(&s[n..], at + n)?;
+    if n + edit.len != s.len() {
+        return None;
     }
-    BodyRead::Found(
-        AnyBody::Nucleotide(kind, rebuilt(l), edit),
-        read_scan::leftmost(faults, later),
-    )
+    let body = AnyBody::Nucleotide(kind, rebuilt(location.value), edit.value);
+    Some((body, location.faults.leftmost(edit.faults)))
 }

@@ -1,30 +1,26 @@
 -- The first of two that finds something.
+use Rattle.std.specs.Prelude as Prelude
+use Rattle.std.specs.Prelude.{None, Some}
+use Rattle.std.specs.Option.{MatchOption}
 use Prim.Native.Nat.{ℕ}
-use mathlib.Core.Path.{◌≡◌, refl}
+use mathlib.Core.Path.{◌≡◌, refl, ◌∙◌}
 use mathlib.Core.Option.{Option, none, some}
-use native.Mathlib.Omega.{arith}
 use Rattle.record.specs.declared.NaEdit as D
 use Rattle.grammar.specs.NucleotideEdits.{NaEditTree}
 use Rattle.lang.specs.Choice.{or_next}
-use Rattle.read_scan.specs.declared.Faults.{Faults}
+use Rattle.read_scan.specs.declared.Found.{Found}
 use Rattle.read_scan.specs.Accounts.{answered}
-use Rattle.read_na_forms.specs.declared.NaEditRead.{NaEditRead}
-use Rattle.read_na_forms.specs.declared.NaEditRead.TheVariants.{Nothing, Found}
 use Rattle.read_na_forms.specs.NaEditAnswers.{na_edit_answer}
 
-module _ (k : ℕ) (o u : Option NaEditTree) (r : NaEditRead) (e : r ≡ na_edit_answer k o) where
-  pub or_found : (t : D.NaEdit) (n : ℕ) (f : Faults) → r ≡ Found t n f → r ≡ na_edit_answer k (or_next o u)
-  unfolding answered
-  or_found t n f h = go o e
-    where
-      go : (o : Option NaEditTree) → r ≡ na_edit_answer k o → r ≡ na_edit_answer k (or_next o u)
-      go none e = absurd (let z : ◌≡◌ {A = ℕ} 0 1 = cc in omega arith)
-      go (some t) e = e
+-- r is what the first finds, and q what the second finds where the first finds nothing
+pub first_of : (k : ℕ) (o u : Option NaEditTree) (r q : Prelude.Option (Found D.NaEdit)) {P : Type 0} → r ≡ na_edit_answer k o → MatchOption r P (λ x. q ≡ Some x) → (P → q ≡ na_edit_answer k u) → q ≡ na_edit_answer k (or_next o u)
+unfolding answered
+first_of k none u r q e m h = h (rw e at m)
+first_of k (some t) u r q e m h = rw e at m
 
-  pub or_nothing : r ≡ Nothing → na_edit_answer k u ≡ na_edit_answer k (or_next o u)
-  unfolding answered
-  or_nothing h = go o e
-    where
-      go : (o : Option NaEditTree) → r ≡ na_edit_answer k o → na_edit_answer k u ≡ na_edit_answer k (or_next o u)
-      go none e = refl
-      go (some t) e = absurd (let z : ◌≡◌ {A = ℕ} 0 1 = cc in omega arith)
+in_turn : (o u w : Option NaEditTree) → or_next (or_next o u) w ≡ or_next o (or_next u w)
+in_turn none u w = refl
+in_turn (some t) u w = refl
+
+pub six_in_turn : (a b c d e f : Option NaEditTree) → or_next (or_next (or_next (or_next (or_next a b) c) d) e) f ≡ or_next a (or_next b (or_next c (or_next d (or_next e f))))
+six_in_turn a b c d e f = in_turn _ e f ∙ in_turn _ d _ ∙ in_turn _ c _ ∙ in_turn a b _

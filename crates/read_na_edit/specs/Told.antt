@@ -1,29 +1,20 @@
 -- What an answer says: which tree was parsed, and that the answer is the tree's.
-use Rattle.std.specs.Prelude.{ℕ, ◌≡◌, refl, List}
+use Rattle.std.specs.Prelude.{ℕ, ◌≡◌, refl, List, None, Some}
 use Rattle.std.proofs.Math.Option.{none}
-use Rattle.std.proofs.Common.{arith}
 use Rattle.alphabet.specs.Letters.{nucleotide}
 use Rattle.record.specs.declared.NaEdit as Declared
 use Rattle.record.specs.declared.MuNaEdit.{MuNaEdit}
 use Rattle.record.specs.declared.MuNaEdit.TheVariants.{Certain, Uncertain}
 use Rattle.grammar.specs.Records.{na_edit_at, mu_na_edit_at}
 use Rattle.grammar.specs.Numbers.{na_edit_numbers}
-use Rattle.read_scan.specs.declared.Faults.{Faults}
-use Rattle.read_scan.specs.Accounts.{Cases, Told, told, unread}
+use Rattle.read_scan.specs.declared.Found.{Found}
+use Rattle.read_scan.specs.Accounts.{Told, told, unread}
 use Rattle.read_scan.specs.MuAccounts.{Bracketed}
 use Rattle.lang_na_edits.specs.Settled.{settled_na_edit}
 use Rattle.lang_na_edits.proofs.Alphabet.{nucleotides}
 use Rattle.lang_na_edits.proofs.Sound.{na_edit_lang}
 use Rattle.lang_na_edits.proofs.Bracketing.{mu_na_edit_lang}
-use Rattle.read_na_forms.specs.declared.NaEditRead.TheVariants as Edits
-use Rattle.read_na_edit.specs.declared.MuNaEditRead.TheVariants as Mus
 use Rattle.read_na_edit.specs.MuNaEditAnswers.{mu_na_edits, mu_na_edit_answer}
-
-pub edit_cases : Cases Edits.Nothing Edits.Found
-edit_cases = record { apart = λ e. let y : ◌≡◌ {A = ℕ} 0 1 = cc in omega arith; same = λ e. (cc, cc, cc) }
-
-pub mu_cases : Cases Mus.Nothing Mus.Found
-mu_cases = record { apart = λ e. let y : ◌≡◌ {A = ℕ} 0 1 = cc in omega arith; same = λ e. (cc, cc, cc) }
 
 abbrev pub bracketed : Bracketed (na_edit_lang nucleotide nucleotides)
 bracketed =
@@ -40,12 +31,12 @@ bracketed =
       read_unsure = λ k t. refl;
     }
 
-abbrev pub MuTold : ℕ → List ℕ → MuNaEdit → ℕ → Faults → Type 0
+abbrev pub MuTold : ℕ → List ℕ → Found MuNaEdit → Type 0
 MuTold at s = Told mu_na_edits at (mu_na_edit_lang nucleotide nucleotides).parse s
 
 module _ (at : ℕ) (s : List ℕ) where
-  pub mu_told : (e : MuNaEdit) (n : ℕ) (f : Faults) → Mus.Found e n f ≡ mu_na_edit_answer at ((mu_na_edit_lang nucleotide nucleotides).parse s) → MuTold at s e n f
-  mu_told e n f = told mu_cases mu_na_edits at (mu_na_edit_lang nucleotide nucleotides).parse s
+  pub mu_told : (x : Found MuNaEdit) → Some x ≡ mu_na_edit_answer at ((mu_na_edit_lang nucleotide nucleotides).parse s) → MuTold at s x
+  mu_told x = told mu_na_edits at (mu_na_edit_lang nucleotide nucleotides).parse s
 
-  pub mu_unread : Mus.Nothing ≡ mu_na_edit_answer at ((mu_na_edit_lang nucleotide nucleotides).parse s) → (mu_na_edit_lang nucleotide nucleotides).parse s ≡ none
-  mu_unread = unread mu_cases mu_na_edits at (mu_na_edit_lang nucleotide nucleotides).parse s
+  pub mu_unread : None ≡ mu_na_edit_answer at ((mu_na_edit_lang nucleotide nucleotides).parse s) → (mu_na_edit_lang nucleotide nucleotides).parse s ≡ none
+  mu_unread = unread mu_na_edits at (mu_na_edit_lang nucleotide nucleotides).parse s

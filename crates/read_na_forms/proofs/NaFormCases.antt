@@ -19,8 +19,10 @@ use Rattle.grammar.specs.NucleotideEdits.{NaEditTree, NaEditTree.equal, NaEditTr
 use Rattle.lang_na_edits.specs.Choice.{on_word}
 use Rattle.lang_na_edits.proofs.Choice.{on_none, on_some_lem}
 use Rattle.lang_na_edits.specs.Parse.{parse_ident, parse_subst, inserted, after_del_num, after_del, after_inv, parse_ins}
-use Rattle.read_na_forms.specs.declared.NaEditRead.{NaEditRead}
-use Rattle.read_na_forms.specs.declared.NaEditRead.TheVariants.{Nothing}
+use Rattle.std.specs.Prelude as Prelude
+use Rattle.std.specs.Prelude.{None}
+use Rattle.record.specs.declared.NaEdit as D
+use Rattle.read_scan.specs.declared.Found.{Found}
 use Rattle.read_scan.specs.Accounts.{answered}
 use Rattle.read_na_forms.specs.NaEditAnswers.{na_edit_answer}
 
@@ -144,9 +146,9 @@ module _ (na : ℕ → Bool) where
 
 -- ---- what f makes of the text behind a word of three letters
 module _ (k : ℕ) (w : List ℕ) (f : List ℕ → NaEditTree) (s : List ℕ) where
-  pub word_found : length w ≡ 3 → starts w s ≡ true → (r : NaEditRead) → r ≡ na_edit_answer k (some (f (take (length s - 3) (drop 3 s)))) → r ≡ na_edit_answer k (on_word w f s)
+  pub word_found : length w ≡ 3 → starts w s ≡ true → (r : Prelude.Option (Found D.NaEdit)) → r ≡ na_edit_answer k (some (f (take (length s - 3) (drop 3 s)))) → r ≡ na_edit_answer k (on_word w f s)
   word_found l h r e = rw (h, l, ← tail_part 3 s) e
 
-  pub word_nothing : starts w s ≡ false → Nothing ≡ na_edit_answer k (on_word w f s)
+  pub word_nothing : starts w s ≡ false → None ≡ na_edit_answer k (on_word w f s)
   unfolding answered
   word_nothing h = rw h

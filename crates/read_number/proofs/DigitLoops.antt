@@ -9,7 +9,7 @@ use native.Mathlib.Numerals.{add-one}
 use lib.Dec.{eqb, leb}
 use lib.ListN.{length, get_or, take}
 use lib.Seq.{take-suc}
-use borrow.Author.Tests.{leb-true, leb-false, eqb-true, eq-eqb}
+use borrow.Author.Tests.{leb-true, leb-false, eqb-true}
 use Rattle.texts.proofs.Tests.{clash, never}
 use Rattle.texts.specs.Runs.{run, front}
 use Rattle.texts.specs.Words.{starts}
@@ -43,19 +43,20 @@ value_more s i v h e =
     omega arith
 
 -- ---- a zero in front
-pub zero_missing : (s : List ℕ) → length s ≡ 0 → false ≡ zero_first s
+pub zero_missing : (s : List ℕ) → length s < 1 → false ≡ zero_first s
 unfolding starts
-zero_missing [] e = refl
-zero_missing (b ∷ s) e = absurd (omega arith)
+zero_missing [] h = refl
+zero_missing (b ∷ s) h = absurd (omega arith)
 
-pub zero_there : (s : List ℕ) → (length s ≡ 0 → ⊥) → eqb (get_or s 0 0) (code "0") ≡ zero_first s
+pub zero_there : (s : List ℕ) → (length s < 1 → ⊥) → get_or s 0 0 ≡ code "0" → true ≡ zero_first s
 unfolding starts
-zero_there [] n = absurd (n refl)
-zero_there (b ∷ s) n = go (eqb b (code "0")) refl
-  where
-    go : (t : Bool) → eqb b (code "0") ≡ t → eqb b (code "0") ≡ eqb (code "0") b && true
-    go true e = rw (e, eq-eqb (code "0") b (sym (eqb-true b (code "0") e)))
-    go false e = rw (e, never (eqb (code "0") b) (λ h. clash (eq-eqb b (code "0") (sym (eqb-true (code "0") b h))) e))
+zero_there [] h e = absurd (h (omega arith))
+zero_there (b ∷ s) h e = rw e refl
+
+pub zero_other : (s : List ℕ) → (get_or s 0 0 ≡ code "0" → ⊥) → false ≡ zero_first s
+unfolding starts
+zero_other [] n = refl
+zero_other (b ∷ s) n = rw (never (eqb (code "0") b) (λ h. n (sym (eqb-true (code "0") b h)))) refl
 
 -- it is a digit: it is the first byte of the text exactly where it is the first of the digits
 zero_first_lem : (s : List ℕ) → zero_first s ≡ zero_first (front digit s)

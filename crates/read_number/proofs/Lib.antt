@@ -1,2 +1,1 @@
 pub mod DigitLoops
-pub mod SignedValues

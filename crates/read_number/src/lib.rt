@@ -2,7 +2,6 @@
 #![tactic(auto)]
 
 ghost use Rattle.std.specs.Prelude.{◌≡◌, ◌≤◌, min, pos, neg_ℤ};
-ghost use Rattle.alphabet.specs.Cells.{IsTable};
 ghost use Rattle.texts.specs.Ascii.{ascii};
 ghost use Rattle.texts.specs.Words.{starts};
 ghost use Rattle.numerals.specs.Spelling.{plain_sign, plainly};
@@ -19,19 +18,9 @@ fn limit(sign: Sign) -> u64
     ensures { result ≡ most sign }
 {
     match sign {
-        Sign::Unsigned => 2147483647,
-        Sign::Plus => 2147483647,
         Sign::Minus => 2147483648,
-        Sign::Negated => 2147483647,
+        Sign::Unsigned | Sign::Plus | Sign::Negated => 2147483647,
     }
-}
-
-fn negative(v: u64) -> i32
-    requires { v ≤ 2147483648 }
-    ensures { result ≡ neg_ℤ (pos v) }
-{
-    let w = v as i64;
-    (0 - w) as i32
 }
 
 fn with_sign(sign: Sign, v: u64) -> i32
@@ -39,10 +28,8 @@ fn with_sign(sign: Sign, v: u64) -> i32
     ensures { result ≡ signed sign v }
 {
     match sign {
-        Sign::Unsigned => v as i32,
-        Sign::Plus => v as i32,
-        Sign::Minus => negative(v),
-        Sign::Negated => negative(v),
+        Sign::Unsigned | Sign::Plus => v as i32,
+        Sign::Minus | Sign::Negated => -(v as i64) as i32,
     }
 }
 
@@ -51,10 +38,9 @@ fn plain_sign(sign: Sign, zero: bool) -> bool
     ensures { result ≡ plain_sign sign zero }
 {
     match sign {
-        Sign::Unsigned => true,
+        Sign::Unsigned | Sign::Negated => true,
         Sign::Plus => false,
         Sign::Minus => !zero,
-        Sign::Negated => true,
     }
 }
 
@@ -62,66 +48,39 @@ fn plain_sign(sign: Sign, zero: bool) -> bool
 fn is_plain(len: usize, sign: Sign, zero: bool) -> bool
     ensures { result ≡ plainly len sign zero }
 {
-    if !zero {
-        return plain_sign(sign, false);
-    }
-    if len != 1 {
-        return false;
-    }
-    plain_sign(sign, true)
+    (!zero || len == 1) && plain_sign(sign, zero)
 }
 
 fn number_of(len: usize, sign: Sign, v: u64, zero: bool) -> Number
     ensures { result ≡ number_of len sign v zero }
 {
     let plain = is_plain(len, sign, zero);
-    if v <= limit(sign) {
-        Number {
-            len,
-            value: with_sign(sign, v),
-            fits: true,
-            plain,
-        }
-    } else {
-        Number {
-            len,
-            value: 0,
-            fits: false,
-            plain,
-        }
+    let fits = v <= limit(sign);
+    Number {
+        len,
+        value: if fits { with_sign(sign, v) } else { 0 },
+        fits,
+        plain,
     }
 }
 
 fn begins_with_zero(s: &[u8]) -> bool
     ensures { result ≡ starts (ascii "0") s.now }
 {
-    if s.len() == 0 {
-        return false;
-    }
-    s[0] == b'0'
-}
-
-fn capped(v: u64) -> u64
-    ensures { result ≡ min v too_large }
-{
-    if v < TOO_LARGE { v } else { TOO_LARGE }
+    matches!(s, [b'0', ..])
 }
 
 // The digits at the front of a text, of any length, in one pass.
-pub fn number_at(table: &[u8; 256], s: &[u8], sign: Sign) -> Number
-    requires { IsTable table.now }
+pub fn number_at(s: &[u8], sign: Sign) -> Number
     ensures { result ≡ number_at sign s.now }
 {
     let zero = begins_with_zero(s);
-    let mut v: u64 = 0;
-    let mut i = 0;
-    while i < s.len() {
-        let b = s[i];
-        if !alphabet::is_in(table, Class::Digit, b) {
+    let mut v = 0;
+    for (i, &b) in s.iter().enumerate() {
+        if !alphabet::is_in(Class::Digit, b) {
             return number_of(i, sign, v, zero);
         }
-        v = capped(10 * v + (b - b'0') as u64);
-        i += 1;
+        v = (10 * v + u64::from(b - b'0')).min(TOO_LARGE);
     }
-    number_of(i, sign, v, zero)
+    number_of(s.len(), sign, v, zero)
 }

@@ -30,17 +30,18 @@ use Rattle.grammar.specs.Positions.{OffsetTree, Based.based, Genomic.known, Geno
 use Rattle.grammar.specs.Meaning.{number, sign_of}
 use Rattle.grammar.specs.Records.{span}
 use Rattle.grammar.specs.Numbers.{Numeral.numeral, offset_numbers}
-use Rattle.read_scan.specs.Accounts.{answered}
+use Rattle.std.specs.Prelude.{None, Some}
+use Rattle.record.specs.Named.{Offset}
+use Rattle.read_scan.specs.declared.Found.{Found}
+use Rattle.read_scan.specs.Accounts.{found, answered, plain}
 use Rattle.read_scan.specs.declared.Faults.{Faults}
 use Rattle.read_scan.specs.Reading.{number_run, number_len, number_le, number_value, number_faults}
-use Rattle.read_scan.specs.Faults.{faults, none as noFault, of_number, first, faults_nil, faults_append}
+use Rattle.read_scan.specs.Faults.{faults, of_number, first, faults_nil, faults_append}
 use Rattle.lang_locations.specs.Parse.{parse_mark, parse_offset, parse_based, parse_genomic, parse_residual}
 use Rattle.lang_locations.proofs.Sound.{digits_none, digits_some, mark_split, offset_sound}
 use Rattle.any_location.specs.declared.Position.{Position}
 use Rattle.read_mark_offset.specs.declared.MarkRead.{MarkRead}
-use Rattle.read_mark_offset.specs.declared.OffsetRead.{OffsetRead}
 use Rattle.read_mark_offset.specs.MarkOffsetAnswers.{mark_of, offset_answer}
-use Rattle.read_position.specs.declared.PositionRead.TheVariants.{Nothing, Found}
 use Rattle.read_position.specs.Forms.{is_barred, parse_based_for}
 use Rattle.any_location.specs.OfTree.{unmarked_of, based_of}
 use Rattle.read_position.specs.PositionAnswers.{position_answer}
@@ -55,7 +56,7 @@ offset_le at s = omega (arith, simp length-append at (ap length (offset_sound s)
 
 -- ---- c, n, r
 based_found : (at : ℕ) (m : Tree.Mark) (ds : List ℕ) (o : OffsetTree)
-    → Found (based_of (based m ds o)) (length (print_mark m) + length ds + length (print_offset o)) (first (faults (numeral (at + length (print_mark m)) (sign_of m) ds ∷ []) true) (faults (offset_numbers (at + length (print_mark m) + length ds) o) true))
+    → found (based_of (based m ds o)) (length (print_mark m) + length ds + length (print_offset o)) (first (faults (numeral (at + length (print_mark m)) (sign_of m) ds ∷ []) true) (faults (offset_numbers (at + length (print_mark m) + length ds) o) true))
     ≡ position_answer Cds at (some (based m ds o))
 unfolding answered
 based_found at m ds o =
@@ -82,11 +83,11 @@ module _ (at : ℕ) (s : List ℕ) (m : MarkRead) (em : m ≡ mark_of (parse_mar
     unfolding y
     based_number_lem = omega (arith, based_mark, number_le (sign_of (parse_mark s)) y n read, length-drop (length (print_mark (parse_mark s))) s, ap (λ (x : MarkRead). x.len) em)
 
-    pub based_none : n.len ≡ 0 → Nothing ≡ position_answer Cds at (parse_based s)
+    pub based_none : n.len ≡ 0 → None ≡ position_answer Cds at (parse_based s)
     unfolding y parse_based answered
     based_none z = rw (digits_none none (λ ds. some (based (parse_mark s) ds (parse_offset (behind digit y)))) y (sym (number_run (sign_of (parse_mark s)) y n read) ∙ z))
 
-    module _ (z : n.len ≡ 0 → ⊥) (o : OffsetRead) (eo : o ≡ offset_answer (at + (m.len + n.len)) (parse_offset (take (length s - (m.len + n.len)) (drop (m.len + n.len) s)))) where
+    module _ (z : n.len ≡ 0 → ⊥) (o : Found Offset) (eo : o ≡ offset_answer (at + (m.len + n.len)) (parse_offset (take (length s - (m.len + n.len)) (drop (m.len + n.len) s)))) where
       pub based_offset : m.len + n.len + o.len ≤ length s
       based_offset =
           let e = m.len + n.len in
@@ -102,7 +103,7 @@ module _ (at : ℕ) (s : List ℕ) (m : MarkRead) (em : m ≡ mark_of (parse_mar
           eo ∙ rw (tail_part (m.len + n.len) s, em, l, q, drop-drop (run digit (drop k s)) k s)
 
       pub based_some : (aa : Span) (f g : Faults) → aa ≡ span 0 0 → f ≡ of_number n.fits n.plain (at + m.len) → g ≡ first f o.faults
-          → Found (record { aa = aa; number = to_z w32 (of_z w32 n.value); unknown = false; cds_from = m.cds_from; offset = o.offset }) (m.len + n.len + o.len) g ≡ position_answer Cds at (parse_based s)
+          → found (record { aa = aa; number = to_z w32 (of_z w32 n.value); unknown = false; cds_from = m.cds_from; offset = o.value }) (m.len + n.len + o.len) g ≡ position_answer Cds at (parse_based s)
       unfolding y parse_based offset_answer
       based_some aa f g ea ef eg =
           let k = length (print_mark (parse_mark s)) in
@@ -114,7 +115,7 @@ module _ (at : ℕ) (s : List ℕ) (m : MarkRead) (em : m ≡ mark_of (parse_mar
           (based_found at (parse_mark s) ds (parse_offset (behind digit y)))
 
 module _ (k : Kind) (at : ℕ) (s : List ℕ) where
-  pub based_barred : is_barred k s ≡ true → Nothing ≡ position_answer Cds at (parse_based_for k s)
+  pub based_barred : is_barred k s ≡ true → None ≡ position_answer Cds at (parse_based_for k s)
   unfolding parse_based_for answered
   based_barred e = rw e
 
@@ -124,18 +125,18 @@ module _ (k : Kind) (at : ℕ) (s : List ℕ) where
 
 -- ---- g, m
 module _ (at : ℕ) (s : List ℕ) (n : Number) (en : n ≡ number_at Unsigned s) where
-  pub genomic_unknown : n.len ≡ 0 → starts (ascii "?") s ≡ true → (aa : Span) (p : Position) (f : Faults) → aa ≡ span 0 0 → p ≡ unmarked_of aa (pos 0) true → f ≡ noFault
-      → Found p 1 f ≡ position_answer Genome at (parse_genomic s)
+  pub genomic_unknown : n.len ≡ 0 → starts (ascii "?") s ≡ true → (aa : Span) (p : Position) → aa ≡ span 0 0 → p ≡ unmarked_of aa (pos 0) true
+      → Some (plain p 1) ≡ position_answer Genome at (parse_genomic s)
   unfolding parse_genomic answered
-  genomic_unknown z q aa p f ea ep ef =
-      rw (digits_none (cond (starts (ascii "?") s) (some unknown) none) (λ ds. some (known ds)) s (sym (number_run Unsigned s n en) ∙ z), q, ep, ea, ef, faults_nil)
+  genomic_unknown z q aa p ea ep =
+      rw (digits_none (cond (starts (ascii "?") s) (some unknown) none) (λ ds. some (known ds)) s (sym (number_run Unsigned s n en) ∙ z), q, ep, ea, faults_nil)
 
-  pub genomic_none : n.len ≡ 0 → starts (ascii "?") s ≡ false → Nothing ≡ position_answer Genome at (parse_genomic s)
+  pub genomic_none : n.len ≡ 0 → starts (ascii "?") s ≡ false → None ≡ position_answer Genome at (parse_genomic s)
   unfolding parse_genomic answered
   genomic_none z q = rw (digits_none (cond (starts (ascii "?") s) (some unknown) none) (λ ds. some (known ds)) s (sym (number_run Unsigned s n en) ∙ z), q)
 
   pub genomic_some : (n.len ≡ 0 → ⊥) → (aa : Span) (p : Position) (f : Faults) → aa ≡ span 0 0 → p ≡ unmarked_of aa (to_z w32 (of_z w32 n.value)) false → f ≡ of_number n.fits n.plain at
-      → Found p n.len f ≡ position_answer Genome at (parse_genomic s)
+      → found p n.len f ≡ position_answer Genome at (parse_genomic s)
   unfolding parse_genomic answered
   genomic_some z aa p f ea ep ef =
       rw (digits_some (cond (starts (ascii "?") s) (some unknown) none) (λ ds. some (known ds)) s (λ q. z (number_run Unsigned s n en ∙ q)), ep, ea, number_value Unsigned s n en, ef, number_faults Unsigned s n en at, number_len Unsigned s n en)
@@ -145,7 +146,7 @@ module _ (at : ℕ) (s : List ℕ) (k : ℕ) (ek : k ≡ residue_len s) where
   pub residual_le : k ≤ length s
   residual_le = omega (arith, residue_le s)
 
-  pub residual_none : k ≡ 0 → Nothing ≡ position_answer Prot at (parse_residual s)
+  pub residual_none : k ≡ 0 → None ≡ position_answer Prot at (parse_residual s)
   unfolding parse_residual answered
   residual_none z = rw (← ek, z)
 
@@ -156,12 +157,12 @@ module _ (at : ℕ) (s : List ℕ) (k : ℕ) (ek : k ≡ residue_len s) where
     pub residual_number_lem : k + n.len ≤ length s
     residual_number_lem = omega (arith, residual_le, number_le Unsigned (drop k s) n behind_residue, length-drop k s)
 
-    pub residual_bare : (k ≡ 0 → ⊥) → n.len ≡ 0 → Nothing ≡ position_answer Prot at (parse_residual s)
+    pub residual_bare : (k ≡ 0 → ⊥) → n.len ≡ 0 → None ≡ position_answer Prot at (parse_residual s)
     unfolding parse_residual answered
     residual_bare zk z = rw (← ek, ne_eqb k 0 zk, digits_none none (λ ds. some (residual (take k s) ds)) (drop k s) (sym (number_run Unsigned (drop k s) n behind_residue) ∙ z))
 
     pub residual_some : (k ≡ 0 → ⊥) → (n.len ≡ 0 → ⊥) → (aa : Span) (p : Position) (f : Faults) → aa ≡ span at k → p ≡ unmarked_of aa (to_z w32 (of_z w32 n.value)) false → f ≡ of_number n.fits n.plain (at + k)
-        → Found p (k + n.len) f ≡ position_answer Prot at (parse_residual s)
+        → found p (k + n.len) f ≡ position_answer Prot at (parse_residual s)
     unfolding parse_residual answered
     residual_some zk z aa p f ea ep ef =
         let y = drop k s in

@@ -1,4 +1,5 @@
 -- How the kinds write their positions: c, n and r with a base, g and m with digits or `?`, p with a residue.
+use Rattle.std.specs.Prelude as Prelude
 use Rattle.std.specs.Prelude.{ℕ, List, Bool, true, false, cond}
 use Rattle.std.proofs.Math.Path.{◌≡◌, refl}
 use Rattle.std.proofs.Common.{◌∙◌, arith}
@@ -11,10 +12,11 @@ use Rattle.grammar.specs.Positions.{Based, Based.based}
 use Rattle.lang_locations.specs.Parse.{parse_based, parse_unstarred, parse_genomic, parse_residual, parse_position}
 use Rattle.lang_locations.proofs.Sound.{sound_position}
 use Rattle.lang_locations.proofs.Canonical.{unstarred_from}
+use Rattle.any_location.specs.declared.Position.{Position}
+use Rattle.read_scan.specs.declared.Found.{Found}
 use Rattle.read_scan.specs.Accounts.{answered}
 use Rattle.read_position.specs.declared.Form.{Form}
 use Rattle.read_position.specs.declared.Form.TheVariants.{Based as BasedForm, Genomic, Residual}
-use Rattle.read_position.specs.declared.PositionRead.{PositionRead}
 use Rattle.read_position.specs.PositionAnswers.{position_answer}
 
 abbrev pub form_of : Kind → Form
@@ -41,7 +43,7 @@ unfoldable pub parse_based_for : Kind → List ℕ → Option Based
 parse_based_for k s = cond (is_barred k s) none (parse_based s)
 
 -- ---- laws
-module _ (at : ℕ) (s : List ℕ) (r : PositionRead) where
+module _ (at : ℕ) (s : List ℕ) (r : Prelude.Option (Found Position)) where
   abbrev Says : Kind → Type 0
   Says k = r ≡ position_answer k at (parse_position k s)
 

@@ -21,39 +21,25 @@ use Rattle.lang_bodies.specs.Settled.{settled_protein_body}
 use Rattle.read_scan.specs.declared.Faults.{Faults}
 use Rattle.read_scan.specs.Faults.{faults, settled_if, none as noFaults, settled_none}
 use Rattle.any_body.specs.declared.AnyBody.TheVariants.{Protein}
-use Rattle.read_na_body.specs.declared.BodyRead.TheVariants as BR
 use Rattle.read_na_body.specs.NaBodyAnswers.{body_answer}
-use Rattle.read_protein_change.specs.declared.OrdinaryRead.TheVariants as OR
+use Rattle.std.specs.Prelude.{None, Some}
+use Rattle.read_scan.specs.declared.Found.{Found}
 use Rattle.read_protein_change.specs.ProteinChangeAnswers.{ordinary_answer}
 use Rattle.read_protein_change.specs.Told.{OrdinaryTold, ordinary_unread}
-use Rattle.read_protein_body.specs.declared.ExactRead.TheVariants as ER
 use Rattle.read_protein_body.specs.ExactAnswers.{exact_answer}
 
 -- ---- the texts without location
-module _ (b : ProteinBody) (bs : List ProteinBody) (s : List ℕ) where
-  pub this_exact : same (print_protein_body b) s ≡ true → first_exact (b ∷ bs) s ≡ some b
-  unfolding first_exact
-  this_exact e = rw e
-
-  pub next_exact : same (print_protein_body b) s ≡ false → first_exact (b ∷ bs) s ≡ first_exact bs s
-  unfolding first_exact
-  next_exact e = rw e
-
-pub no_exact : (s : List ℕ) → first_exact [] s ≡ none
-unfolding first_exact
-no_exact s = refl
-
 pub record ExactTold (s : List ℕ) (b : ProtLocEdit) : Type 0 where
   pub tree : ProteinBody
   pub parsed : first_exact exact_bodies s ≡ some tree
   pub means : b ≡ protein_body_at 0 tree
 
-pub exact_told : (s : List ℕ) (b : ProtLocEdit) → ER.Found b ≡ exact_answer (first_exact exact_bodies s) → ExactTold s b
+pub exact_told : (s : List ℕ) (b : ProtLocEdit) → Some b ≡ exact_answer (first_exact exact_bodies s) → ExactTold s b
 exact_told s b h =
     by_answer exact_answer (first_exact exact_bodies s) h (λ q z. absurd (let y : ◌≡◌ {A = ℕ} 0 1 = cc in omega arith))
     (λ t q z. record { tree = t; parsed = q; means = cc })
 
-pub exact_none : (s : List ℕ) → ER.Nothing ≡ exact_answer (first_exact exact_bodies s) → first_exact exact_bodies s ≡ none
+pub exact_none : (s : List ℕ) → None ≡ exact_answer (first_exact exact_bodies s) → first_exact exact_bodies s ≡ none
 exact_none s h = by_answer exact_answer (first_exact exact_bodies s) h (λ q z. q) (λ t q z. absurd (let y : ◌≡◌ {A = ℕ} 0 1 = cc in omega arith))
 
 -- a body without location has no place and no number, and is settled where its text is in no brackets
@@ -82,26 +68,26 @@ all_exact =
     (exact _ (λ k. refl) (λ k. refl) refl, (exact _ (λ k. refl) (λ k. refl) refl, (exact _ (λ k. refl) (λ k. refl) refl, (exact _ (λ k. refl) (λ k. refl) refl, (exact _ (λ k. refl) (λ k. refl) refl, (exact _ (λ k. refl) (λ k. refl) refl, (exact _ (λ k. refl) (λ k. refl) refl, tt)))))))
 
 module _ (at : ℕ) (s : List ℕ) where
-  pub exact_found : (b : ProtLocEdit) (f w : Faults) (opened : Bool) → ExactTold s b → opened ≡ starts (ascii "(") s → f ≡ noFaults → w ≡ settled_if (not opened) f → BR.Found (Protein b) w ≡ body_answer Prot at (parse_protein_body s)
+  pub exact_found : (b : ProtLocEdit) (w : Faults) (opened : Bool) → ExactTold s b → opened ≡ starts (ascii "(") s → w ≡ settled_if (not opened) noFaults → Some (Protein b, w) ≡ body_answer Prot at (parse_protein_body s)
   unfolding body_answer parse_protein_body
-  exact_found b f w opened x eo ef ew =
+  exact_found b w opened x eo ew =
       let t = x.tree in
       let p = which_exact exact_bodies s t all_exact x.parsed in
       let a : b ≡ protein_body_at at t = x.means ∙ sym (p.0.place at) in
       let e : settled_protein_body t ≡ not opened = p.0.settled ∙ rw (eo, ← p.1) in
-      let c : w ≡ faults (protein_body_numbers at t) (settled_protein_body t) = ew ∙ rw (p.0.numbers at, e, ef) (settled_none (not opened)) in
+      let c : w ≡ faults (protein_body_numbers at t) (settled_protein_body t) = ew ∙ rw (p.0.numbers at, e) (settled_none (not opened)) in
       rw (x.parsed, a, c)
 
   module _ (none_exact : first_exact exact_bodies s ≡ none) where
-    pub body_none : OR.Nothing ≡ ordinary_answer at (parse_ordinary s) → BR.Nothing ≡ body_answer Prot at (parse_protein_body s)
+    pub body_none : None ≡ ordinary_answer at (parse_ordinary s) → None ≡ body_answer Prot at (parse_protein_body s)
     unfolding body_answer parse_protein_body
     body_none h = rw (none_exact, ordinary_unread at s h)
 
-    module _ {b : ProtLocEdit} {n : ℕ} {f : Faults} (x : OrdinaryTold at s b n f) where
-      pub body_open : (n ≡ length s → ⊥) → BR.Nothing ≡ body_answer Prot at (parse_protein_body s)
+    module _ {c : Found ProtLocEdit} (x : OrdinaryTold at s c) where
+      pub body_open : (c.len ≡ length s → ⊥) → None ≡ body_answer Prot at (parse_protein_body s)
       unfolding body_answer parse_protein_body
       body_open h = rw (none_exact, x.parsed, ne_eqb (length (print_protein_body x.tree)) (length s) (λ e. h (x.long ∙ e)))
 
-      pub body_found : n ≡ length s → BR.Found (Protein b) f ≡ body_answer Prot at (parse_protein_body s)
+      pub body_found : c.len ≡ length s → Some (Protein c.value, c.faults) ≡ body_answer Prot at (parse_protein_body s)
       unfolding body_answer parse_protein_body
       body_found h = rw (none_exact, x.parsed, eq-eqb (length (print_protein_body x.tree)) (length s) (sym x.long ∙ h), x.means, x.wrong)

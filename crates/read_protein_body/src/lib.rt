@@ -2,66 +2,55 @@
 #![tactic(auto)]
 
 ghost use Rattle.std.specs.Prelude.{◌≡◌, ◌+◌, ◌≤◌, length};
-ghost use Rattle.alphabet.specs.Cells.{IsTable};
 ghost use Rattle.record.specs.declared.Kind.TheVariants.{Prot};
 ghost use Rattle.lang_bodies.specs.ProteinBodies.{exact_bodies, first_exact, parse_protein_body};
 ghost use Rattle.read_na_body.specs.NaBodyAnswers.{body_answer};
 ghost use Rattle.read_protein_body.specs.ExactAnswers.{exact_answer};
 
 use any_body::AnyBody;
-use read_na_body::BodyRead;
-use read_protein_change::OrdinaryRead;
+use read_scan::Faults;
 use record::ProtLocEdit;
 
-#[derive(Clone, Copy)]
-pub enum ExactRead {
-    Nothing,
-    Found(ProtLocEdit),
-}
-
 // The texts without location.
-fn exact(s: &[u8]) -> ExactRead
+#[tactic(auto, unfolding(lang_bodies::specs::ProteinBodies::first_exact))]
+fn exact(s: &[u8]) -> Option<ProtLocEdit>
     ensures { result ≡ exact_answer (first_exact exact_bodies s.now) }
 {
     if words::same_bytes(b"Met1?", s) {
-        return ExactRead::Found(ProtLocEdit::InitiationUncertain);
+        return Some(ProtLocEdit::InitiationUncertain);
     }
     if words::same_bytes(b"(Met1?)", s) {
-        return ExactRead::Found(ProtLocEdit::InitiationUncertain);
+        return Some(ProtLocEdit::InitiationUncertain);
     }
     if words::same_bytes(b"0?", s) {
-        return ExactRead::Found(ProtLocEdit::NoProteinUncertain);
+        return Some(ProtLocEdit::NoProteinUncertain);
     }
     if words::same_bytes(b"0", s) {
-        return ExactRead::Found(ProtLocEdit::NoProtein);
+        return Some(ProtLocEdit::NoProtein);
     }
     if words::same_bytes(b"(=)", s) {
-        return ExactRead::Found(ProtLocEdit::NoChangeUncertain);
+        return Some(ProtLocEdit::NoChangeUncertain);
     }
     if words::same_bytes(b"=", s) {
-        return ExactRead::Found(ProtLocEdit::NoChange);
+        return Some(ProtLocEdit::NoChange);
     }
     if words::same_bytes(b"?", s) {
-        return ExactRead::Found(ProtLocEdit::Unknown);
+        return Some(ProtLocEdit::Unknown);
     }
-    ExactRead::Nothing
+    None
 }
 
-pub fn prot_body(table: &[u8; 256], s: &[u8], at: usize) -> BodyRead
-    requires { (at + length s.now ≤ 4096) × IsTable table.now }
+pub fn prot_body(s: &[u8], at: usize) -> Option<(AnyBody, Faults)>
+    requires { at + length s.now ≤ 4096 }
     ensures { result ≡ body_answer Prot at (parse_protein_body s.now) }
 {
-    if let ExactRead::Found(b) = exact(s) {
-        return BodyRead::Found(
-            AnyBody::Protein(b),
-            read_scan::settled_if(!words::begins(s, b"("), read_scan::no_faults()),
-        );
+    if let Some(body) = exact(s) {
+        let faults = Faults::NONE.settled_if(!words::begins(s, b"("));
+        return Some((AnyBody::Protein(body), faults));
     }
-    let OrdinaryRead::Found(b, n, faults) = read_protein_change::ordinary(table, s, at) else {
-        return BodyRead::Nothing;
-    };
-    if n != s.len() {
-        return BodyRead::Nothing;
+    let change = read_protein_change::ordinary(s, at)?;
+    if change.len != s.len() {
+        return None;
     }
-    BodyRead::Found(AnyBody::Protein(b), faults)
+    Some((AnyBody::Protein(change.value), change.faults))
 }

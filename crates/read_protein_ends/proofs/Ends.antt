@@ -1,4 +1,7 @@
 -- What stands behind `fs` and `ext`: the clauses of the list parser, by the tests that the program makes.
+use Rattle.std.specs.Prelude as Prelude
+use Rattle.std.specs.Prelude.{None, Some}
+use Rattle.std.specs.Option.{MatchOption}
 use Prim.Native.Nat.{ℕ, ◌+◌, ◌-◌, ◌≤◌}
 use mathlib.Core.Path.{◌≡◌, refl, sym, ap, ◌∙◌}
 use mathlib.Core.List.{List, [], ◌∷◌}
@@ -24,9 +27,9 @@ use Rattle.numerals.specs.declared.Sign.TheVariants.{Unsigned, Negated}
 use Rattle.residue.specs.Reading.{residue_len}
 use Rattle.residue.proofs.ResiduesRead.{residue_le}
 use Rattle.record.specs.declared.Span.{Span}
-use Rattle.record.specs.declared.Part.{Part}
-use Rattle.record.specs.declared.Part.TheVariants.{Absent, Present}
-use Rattle.record.specs.declared.UncertainLengthChange.TheVariants.{None, Unknown, Known}
+use Rattle.record.specs.Named.{Part}
+use Rattle.record.specs.declared.UncertainLengthChange.{UncertainLengthChange}
+use Rattle.record.specs.declared.UncertainLengthChange.TheVariants.{None as NoLength, Unknown, Known}
 use Rattle.record.specs.declared.ProteinEdit as D
 use Rattle.record.specs.declared.ProteinEdit.TheVariants.{Fs, Ext}
 use Rattle.grammar.specs.Optional.{print_optional}
@@ -34,16 +37,15 @@ use Rattle.grammar.specs.ProteinEdits.{Terminal, Terminal.ter, Terminal.x, Termi
 use Rattle.grammar.specs.Records.{span, part_of}
 use Rattle.lang.proofs.Lang.{front_within}
 use Rattle.grammar.specs.Numbers.{Numeral.numeral}
-use Rattle.read_scan.specs.Faults.{faults, none as noFault, of_number, settled_if, faults_nil, settled_only}
+use Rattle.read_scan.specs.Faults.{faults, of_number, settled_if, faults_nil, settled_only}
 use Rattle.read_scan.specs.Reading.{number_run, number_len, number_le, number_value, number_faults}
 use Rattle.read_scan.specs.declared.Faults.{Faults}
+use Rattle.read_scan.specs.declared.Found.{Found}
+use Rattle.read_scan.specs.Accounts.{found, plain}
 use Rattle.lang_protein_edits.specs.Parse.{bytes_of, terminal_at, length_at, stop_at, earlier_with, earlier_at, later_of, ext_end_at}
 use Rattle.lang_protein_edits.proofs.Complete.{bytes_some}
 use Rattle.lang_protein_edits.proofs.Sound.{bytes_print, terminal_sound, length_sound, fs_sound}
-use Rattle.read_protein_ends.specs.declared.ProteinEditRead.{ProteinEditRead}
-use Rattle.read_protein_ends.specs.declared.ProteinEditRead.TheVariants.{Nothing, Found}
-use Rattle.read_protein_ends.specs.declared.LengthRead.{LengthRead}
-use Rattle.read_protein_ends.specs.declared.StopRead.{StopRead}
+use Rattle.read_protein_ends.specs.declared.Stop as Declared
 use Rattle.read_protein_ends.specs.EndAnswers.{terminal_len, length_read, stop_read, residue_part, fs_read, ext_read, earlier_read}
 
 -- ---- terminals
@@ -73,25 +75,25 @@ module _ (s : List ℕ) where
       go (some t) e = omega (arith, ap length (terminal_sound s t e), length-append (print_terminal t) (drop (length (print_terminal t)) s))
 
 -- ---- lengths
-module _ (at : ℕ) (s : List ℕ) (f : Faults) where
-  pub length_counted : (n : Number) → n ≡ number_at Unsigned s → (n.len ≡ 0 → ⊥) → f ≡ of_number n.fits n.plain at
-      → ◌≡◌ {A = LengthRead} (record { change = Known (to_z w32 (of_z w32 n.value)); len = n.len; faults = f }) (length_read at (length_at s))
+module _ (at : ℕ) (s : List ℕ) (n : Number) (e : n ≡ number_at Unsigned s) where
+  pub length_counted : (f : Faults) → (n.len ≡ 0 → ⊥) → f ≡ of_number n.fits n.plain at
+      → ◌≡◌ {A = Found UncertainLengthChange} (record { value = Known (to_z w32 (of_z w32 n.value)); len = n.len; faults = f }) (length_read at (length_at s))
   unfolding length_read length_at
-  length_counted n e h ef =
+  length_counted f h ef =
       let z : run digit s ≡ 0 → ⊥ = λ q. h (number_run Unsigned s n e ∙ q) in
       rw (ne_eqb (run digit s) 0 z, number_value Unsigned s n e, number_len Unsigned s n e, ef, number_faults Unsigned s n e at)
 
-  module _ (n : Number) (e : n ≡ number_at Unsigned s) (h : n.len ≡ 0) (ef : f ≡ noFault) where
+  module _ (h : n.len ≡ 0) where
     none_counted : eqb (run digit s) 0 ≡ true
     none_counted = eq-eqb (run digit s) 0 (sym (number_run Unsigned s n e) ∙ h)
 
-    pub length_unknown : starts (ascii "?") s ≡ true → ◌≡◌ {A = LengthRead} (record { change = Unknown; len = 1; faults = f }) (length_read at (length_at s))
+    pub length_unknown : starts (ascii "?") s ≡ true → plain Unknown 1 ≡ length_read at (length_at s)
     unfolding length_read length_at
-    length_unknown q = rw (none_counted, q, ef, faults_nil)
+    length_unknown q = rw (none_counted, q, faults_nil)
 
-    pub length_unsaid : starts (ascii "?") s ≡ false → ◌≡◌ {A = LengthRead} (record { change = None; len = 0; faults = f }) (length_read at (length_at s))
+    pub length_unsaid : starts (ascii "?") s ≡ false → plain NoLength 0 ≡ length_read at (length_at s)
     unfolding length_read length_at
-    length_unsaid q = rw (none_counted, q, ef, faults_nil)
+    length_unsaid q = rw (none_counted, q, faults_nil)
 
 pub length_le : (at : ℕ) (s : List ℕ) → (length_read at (length_at s)).len ≤ length s
 unfolding length_read
@@ -104,21 +106,24 @@ terminal_some ter e = omega arith
 terminal_some x e = omega arith
 terminal_some star e = omega arith
 
+abbrev no_stop : Declared.Stop
+no_stop = record { terminal = None; change = NoLength }
+
 module _ (at : ℕ) (s : List ℕ) (t : ℕ) (et : t ≡ terminal_len (terminal_at s)) where
-  pub stop_none : (f : Faults) → t ≡ 0 → f ≡ noFault → ◌≡◌ {A = StopRead} (record { terminal = Absent; change = None; len = 0; faults = f }) (stop_read at (stop_at s))
+  pub stop_none : t ≡ 0 → plain no_stop 0 ≡ stop_read at (stop_at s)
   unfolding stop_read stop_at
-  stop_none f h ef = go (terminal_at s) refl
+  stop_none h = go (terminal_at s) refl
     where
-      go : (o : Option Terminal) → terminal_at s ≡ o → ◌≡◌ {A = StopRead} (record { terminal = Absent; change = None; len = 0; faults = f }) (stop_read at (stop_at s))
-      go none e = rw (e, stop_at, ef, faults_nil)
+      go : (o : Option Terminal) → terminal_at s ≡ o → plain no_stop 0 ≡ stop_read at (stop_at s)
+      go none e = rw (e, stop_at, faults_nil)
       go (some u) e = absurd (terminal_some u (ap terminal_len (sym e) ∙ sym et ∙ h))
 
-  pub stop_some : (n : LengthRead) (p : Span) → (t ≡ 0 → ⊥) → n ≡ length_read (at + t) (length_at (take (length s - t) (drop t s))) → p ≡ span at t
-      → ◌≡◌ {A = StopRead} (record { terminal = Present p; change = n.change; len = t + n.len; faults = n.faults }) (stop_read at (stop_at s))
+  pub stop_some : (n : Found UncertainLengthChange) (p : Span) → (t ≡ 0 → ⊥) → n ≡ length_read (at + t) (length_at (take (length s - t) (drop t s))) → p ≡ span at t
+      → ◌≡◌ {A = Found Declared.Stop} (record { value = record { terminal = Some p; change = n.value }; len = t + n.len; faults = n.faults }) (stop_read at (stop_at s))
   unfolding stop_read stop_at length_read terminal_len
   stop_some n p h en ep = go (terminal_at s) refl
     where
-      go : (o : Option Terminal) → terminal_at s ≡ o → ◌≡◌ {A = StopRead} (record { terminal = Present p; change = n.change; len = t + n.len; faults = n.faults }) (stop_read at (stop_at s))
+      go : (o : Option Terminal) → terminal_at s ≡ o → ◌≡◌ {A = Found Declared.Stop} (record { value = record { terminal = Some p; change = n.value }; len = t + n.len; faults = n.faults }) (stop_read at (stop_at s))
       go none e = absurd (h (et ∙ ap terminal_len e))
       go (some u) e =
           let l : t ≡ length (print_terminal u) = et ∙ ap terminal_len e in
@@ -134,29 +139,32 @@ stop_le at s = go (stop_at s) (front_within (fs_sound s))
     go (some (stop t n)) h = h
 
 -- ---- behind `fs`, and behind `ext` where no `-` stands
-module _ (k n : ℕ) (o : Option Stop) (e : StopRead) (p : Part) (ep : p ≡ residue_part k n) where
-  pub fs_found : e ≡ stop_read (k + n + 2) o → Found (Fs p e.terminal e.change) (n + 2 + e.len) e.faults ≡ fs_read k n o
+module _ (k n : ℕ) (o : Option Stop) (e : Found Declared.Stop) (p : Part) (ep : p ≡ residue_part k n) where
+  abbrev Gives : D.ProteinEdit → ℕ → Found D.ProteinEdit → Type 0
+  Gives d m = ◌≡◌ (record { value = d; len = m; faults = e.faults })
+
+  pub fs_found : e ≡ stop_read (k + n + 2) o → Gives (Fs p e.value.terminal e.value.change) (n + 2 + e.len) (fs_read k n o)
   unfolding fs_read stop_read
   fs_found ee = go o ee
     where
-      go : (o : Option Stop) → e ≡ stop_read (k + n + 2) o → Found (Fs p e.terminal e.change) (n + 2 + e.len) e.faults ≡ fs_read k n o
+      go : (o : Option Stop) → e ≡ stop_read (k + n + 2) o → Gives (Fs p e.value.terminal e.value.change) (n + 2 + e.len) (fs_read k n o)
       go none q = rw (q, ep)
       go (some (stop t m)) q = rw (q, ep)
 
-  pub later_found : e ≡ stop_read (k + n + 3) o → Found (Ext p e.terminal e.change) (n + 3 + e.len) e.faults ≡ ext_read k n (later_of o)
+  pub later_found : e ≡ stop_read (k + n + 3) o → Gives (Ext p e.value.terminal e.value.change) (n + 3 + e.len) (ext_read k n (later_of o))
   unfolding ext_read stop_read
   later_found ee = go o ee
     where
-      go : (o : Option Stop) → e ≡ stop_read (k + n + 3) o → Found (Ext p e.terminal e.change) (n + 3 + e.len) e.faults ≡ ext_read k n (later_of o)
+      go : (o : Option Stop) → e ≡ stop_read (k + n + 3) o → Gives (Ext p e.value.terminal e.value.change) (n + 3 + e.len) (ext_read k n (later_of o))
       go none q = rw (q, ep)
       go (some (stop t m)) q = rw (q, ep)
 
 -- ---- an optional residue of n bytes
-pub part_absent : (k n : ℕ) → n ≡ 0 → Absent ≡ residue_part k n
+pub part_absent : (k n : ℕ) → n ≡ 0 → None ≡ residue_part k n
 unfolding residue_part
 part_absent k n e = rw e
 
-pub part_present : (k n : ℕ) (p : Span) → (n ≡ 0 → ⊥) → p ≡ span k n → Present p ≡ residue_part k n
+pub part_present : (k n : ℕ) (p : Span) → (n ≡ 0 → ⊥) → p ≡ span k n → Some p ≡ residue_part k n
 unfolding residue_part
 part_present k n p h e = rw (ne_eqb n 0 h, e)
 
@@ -180,7 +188,7 @@ module _ (k n : ℕ) (s : List ℕ) (m : ℕ) (em : m ≡ residue_len s) where
   pub behind_residue : m ≤ length s
   behind_residue = omega (arith, residue_le s)
 
-  pub no_minus : starts (ascii "-") (tail m s) ≡ false → Nothing ≡ earlier_read k n (earlier_at s)
+  pub no_minus : starts (ascii "-") (tail m s) ≡ false → None ≡ earlier_read k n (earlier_at s)
   unfolding earlier_read earlier_at earlier_with
   no_minus h = let q : starts (ascii "-") (drop m s) ≡ false = rw (tail_part m s) at h in rw (← em, q)
 
@@ -195,7 +203,7 @@ module _ (k n : ℕ) (s : List ℕ) (m : ℕ) (em : m ≡ residue_len s) where
     unfolding earlier_at
     earlier_is = rw em
 
-    pub no_digits : d.len ≡ 0 → Nothing ≡ earlier_read k n (earlier_at s)
+    pub no_digits : d.len ≡ 0 → None ≡ earlier_read k n (earlier_at s)
     unfolding earlier_read earlier_with bytes_of
     no_digits e = let q : run digit (digits_of m s) ≡ 0 = sym (number_run Negated (digits_of m s) d digits) ∙ e in rw (earlier_is, minus, q)
 
@@ -210,7 +218,7 @@ module _ (k n : ℕ) (s : List ℕ) (m : ℕ) (em : m ≡ residue_len s) where
         rw (earlier_is, minus, bytes_some (run digit (digits_of m s)) (digits_of m s) q)
 
     pub earlier_found : (p q : Part) (f g : Faults) → (d.len ≡ 0 → ⊥) → p ≡ residue_part k n → q ≡ residue_part (k + n + 3) m → f ≡ of_number d.fits d.plain (k + n + 3 + m + 1) → g ≡ settled_if false f
-        → Found (Ext p q (Known (to_z w32 (of_z w32 d.value)))) (n + 3 + m + 1 + d.len) g ≡ earlier_read k n (earlier_at s)
+        → found (Ext p q (Known (to_z w32 (of_z w32 d.value)))) (n + 3 + m + 1 + d.len) g ≡ earlier_read k n (earlier_at s)
     unfolding earlier_read ext_read
     earlier_found p q f g e ep eq ef eg =
         let l : length (print_optional [] (bytes_of m s)) ≡ m = bytes_length m s behind_residue in
@@ -220,20 +228,11 @@ module _ (k n : ℕ) (s : List ℕ) (m : ℕ) (em : m ≡ residue_len s) where
         let c : g ≡ faults ns false = eg ∙ ap (settled_if false) (ef ∙ number_faults Negated (digits_of m s) d digits (k + n + 3 + m + 1)) ∙ settled_only false ns in
         rw (found_earlier e, b, ep, eq, bytes_part (k + n + 3) m s behind_residue, number_value Negated (digits_of m s) d digits, c, l)
 
--- ---- behind `ext`: the first of the two that finds something
-module _ (k n : ℕ) (s : List ℕ) (r : ProteinEditRead) (e : r ≡ earlier_read k n (earlier_at s)) where
-  pub ext_later : r ≡ Nothing → ext_read k n (later_of (stop_at s)) ≡ ext_read k n (ext_end_at s)
-  unfolding ext_end_at earlier_read ext_read
-  ext_later h = go (earlier_at s) refl
-    where
-      go : (o : Option ExtEnd) → earlier_at s ≡ o → ext_read k n (later_of (stop_at s)) ≡ ext_read k n (ext_end_at s)
-      go none q = rw (q, ext_end_at)
-      go (some a) q = absurd (let u : Nothing ≡ ext_read k n a = sym h ∙ e ∙ ap (earlier_read k n) q in let y : ◌≡◌ {A = ℕ} 0 1 = cc in omega arith)
-
-  pub ext_earlier : (t : D.ProteinEdit) (m : ℕ) (f : Faults) → r ≡ Found t m f → r ≡ ext_read k n (ext_end_at s)
-  unfolding ext_end_at earlier_read
-  ext_earlier t m f h = go (earlier_at s) refl
-    where
-      go : (o : Option ExtEnd) → earlier_at s ≡ o → r ≡ ext_read k n (ext_end_at s)
-      go none q = absurd (let u : r ≡ Nothing = e ∙ ap (earlier_read k n) q in let y : ◌≡◌ {A = ℕ} 0 1 = cc in omega arith)
-      go (some a) q = rw (q, ext_end_at) (e ∙ ap (earlier_read k n) q)
+-- ---- behind `ext`: r is what the first of the two finds, and q what the second finds where the first finds nothing
+pub ext_found : (k n : ℕ) (s : List ℕ) (r : Prelude.Option (Found D.ProteinEdit)) (q : Found D.ProteinEdit) {P : Type 0} → r ≡ earlier_read k n (earlier_at s) → MatchOption r P (λ x. q ≡ x) → (P → q ≡ ext_read k n (later_of (stop_at s))) → q ≡ ext_read k n (ext_end_at s)
+unfolding ext_end_at earlier_read
+ext_found k n s r q {P} e m h = go (earlier_at s) refl
+  where
+    go : (o : Option ExtEnd) → earlier_at s ≡ o → q ≡ ext_read k n (ext_end_at s)
+    go none i = rw (i, ext_end_at) (h (rw (e, i) at m))
+    go (some a) i = rw (i, ext_end_at) (rw (e, i) at m)

@@ -5,9 +5,10 @@ use Rattle.std.proofs.Common.{ap, ◌∙◌, append_assoc, append-nil}
 use Rattle.std.proofs.Math.Option.{Option, none as nothing, some}
 use Rattle.std.proofs.Math.Bool.{true, false}
 use native.Mathlib.Omega.{arith}
-use Rattle.std.proofs.Math.Dec.{ltb}
-use borrow.Author.Tests.{ne_eqb, ltb-true, ltb-false, lt-ltb}
-use Rattle.texts.proofs.Tests.{none_some, and_false}
+use Rattle.std.proofs.Math.Dec.{leb}
+use Rattle.std.proofs.lemmas.Bool.{eqb-false}
+use borrow.Author.Tests.{ne_eqb, eq-eqb, eqb-true, leb-true, leb-false, lt-ltb}
+use Rattle.texts.proofs.Tests.{none_some, and_false, clash}
 use Rattle.numerals.specs.declared.Sign.{Sign}
 use Rattle.numerals.specs.Digits.{val}
 use Rattle.numerals.specs.Spelling.{is_plain}
@@ -17,6 +18,7 @@ use Rattle.grammar.specs.NumberLaws.{every_number, is_faultless, all_plain}
 use Rattle.grammar.proofs.NumberLaws.{fits_faultless}
 use Rattle.read_scan.specs.declared.Faults.{Faults}
 use Rattle.read_scan.specs.declared.Verdict.{Verdict}
+use Rattle.read_scan.specs.declared.Verdict.TheVariants.{Settled, Unsettled, NotPlain, DoesNotFit}
 use Rattle.read_scan.specs.Findings.{Finding, told, leftmost_of, nothing_in, code_of, rank_in, place_in, merged, code_append, says_leftmost, says_none_above, says_settled}
 
 -- ---- the ranks of findings: a finding of a higher rank is told before those of lower ones
@@ -70,8 +72,24 @@ abbrev pub settled_if : Bool → Faults → Faults
 settled_if true f = f
 settled_if false f = first not_settled f
 
-abbrev pub verdict : Faults → Verdict
-verdict f = record { rank = rank_in f.code; place = place_in f.code }
+abbrev said_by : (rank place : ℕ) → Verdict
+said_by r k = cond (eqb r 0) Settled (cond (eqb r not_plainly) (NotPlain k) (cond (eqb r does_not_fit) (DoesNotFit k) Unsettled))
+
+unfoldable pub verdict : Faults → Verdict
+verdict f = said_by (rank_in f.code) (place_in f.code)
+
+abbrev pub is_settled : Verdict → Bool
+is_settled Settled = true
+is_settled Unsettled = false
+is_settled (NotPlain k) = false
+is_settled (DoesNotFit k) = false
+
+-- no number is found to be wrong
+abbrev pub is_plain_verdict : Verdict → Bool
+is_plain_verdict Settled = true
+is_plain_verdict Unsettled = true
+is_plain_verdict (NotPlain k) = false
+is_plain_verdict (DoesNotFit k) = false
 
 -- ---- laws
 abbrev coded : ℕ → Faults
@@ -174,37 +192,91 @@ nothing_found (numeral k sign ds ∷ ns) = go (is_plain sign ds) (fits sign (val
     go false false h = refl
 
 -- ---- what a verdict says
+by_rank : (B : Verdict → Type 0) (r k : ℕ) → (r ≡ 0 → B Settled) → (r ≡ not_plainly → B (NotPlain k)) → (r ≡ does_not_fit → B (DoesNotFit k))
+    → ((r ≡ 0 → ⊥) → (r ≡ not_plainly → ⊥) → (r ≡ does_not_fit → ⊥) → B Unsettled) → B (said_by r k)
+by_rank B r k a b d e = go (eqb r 0) (eqb r not_plainly) (eqb r does_not_fit) refl refl refl
+  where
+    go : (x y z : Bool) → eqb r 0 ≡ x → eqb r not_plainly ≡ y → eqb r does_not_fit ≡ z → B (cond x Settled (cond y (NotPlain k) (cond z (DoesNotFit k) Unsettled)))
+    go true y z p q w = a (eqb-true r 0 p)
+    go false true z p q w = b (eqb-true r not_plainly q)
+    go false false true p q w = d (eqb-true r does_not_fit w)
+    go false false false p q w = e (eqb-false r 0 p) (eqb-false r not_plainly q) (eqb-false r does_not_fit w)
+
 module _ (ns : List Numeral) (t : Bool) where
   abbrev said : Verdict
   said = verdict (faults ns t)
 
-  pub verdict_settled : eqb said.rank 0 ≡ is_faultless ns && (all_plain ns && t)
-  unfolding faults
-  verdict_settled = says_settled (findings ns) t ∙ rw (nothing_found ns) (and_assoc (is_faultless ns) (all_plain ns) t)
+  abbrev rank : ℕ
+  rank = rank_in (faults ns t).code
 
-  pub verdict_unfit : said.rank ≡ does_not_fit → misfit ns ≡ some said.place
-  unfolding faults
-  verdict_unfit e = sym (leftmost_misfit ns) ∙ (rw e at (says_leftmost (findings ns) t (omega arith)))
+  abbrev place : ℕ
+  place = place_in (faults ns t).code
 
-  none_unfit : said.rank < does_not_fit → misfit ns ≡ nothing
+  rank_settled : eqb rank 0 ≡ is_faultless ns && (all_plain ns && t)
+  unfolding faults
+  rank_settled = says_settled (findings ns) t ∙ rw (nothing_found ns) (and_assoc (is_faultless ns) (all_plain ns) t)
+
+  rank_unfit : rank ≡ does_not_fit → misfit ns ≡ some place
+  unfolding faults
+  rank_unfit e = sym (leftmost_misfit ns) ∙ (rw e at (says_leftmost (findings ns) t (omega arith)))
+
+  none_unfit : rank < does_not_fit → misfit ns ≡ nothing
   unfolding faults
   none_unfit h = sym (leftmost_misfit ns) ∙ says_none_above (findings ns) t does_not_fit (omega arith) h
 
-  pub verdict_not_plain : said.rank ≡ not_plainly → (misfit ns ≡ nothing) × (not_plain ns ≡ some said.place)
+  rank_not_plain : rank ≡ not_plainly → (misfit ns ≡ nothing) × (not_plain ns ≡ some place)
   unfolding faults
-  verdict_not_plain e = (none_unfit (omega arith), sym (leftmost_not_plain ns) ∙ (rw e at (says_leftmost (findings ns) t (omega arith))))
+  rank_not_plain e = (none_unfit (omega arith), sym (leftmost_not_plain ns) ∙ (rw e at (says_leftmost (findings ns) t (omega arith))))
 
-  pub verdict_plain : said.rank < not_plainly → (misfit ns ≡ nothing) × (not_plain ns ≡ nothing)
+  rank_plain : rank < not_plainly → (misfit ns ≡ nothing) × (not_plain ns ≡ nothing)
   unfolding faults
-  verdict_plain h = (none_unfit (omega arith), sym (leftmost_not_plain ns) ∙ says_none_above (findings ns) t not_plainly (omega arith) h)
+  rank_plain h = (none_unfit (omega arith), sym (leftmost_not_plain ns) ∙ says_none_above (findings ns) t not_plainly (omega arith) h)
 
-  pub verdict_faultless : (said.rank ≡ does_not_fit → ⊥) → Faultless ns
+  -- no rank is higher
+  rank_most : rank ≤ does_not_fit
   unfolding faults
-  verdict_faultless q = fits_faultless ns (none_unfit (go (ltb said.rank does_not_fit) refl))
+  rank_most = go (leb rank does_not_fit) refl
     where
-      go : (b : Bool) → ltb said.rank does_not_fit ≡ b → said.rank < does_not_fit
-      go true p = ltb-true said.rank does_not_fit p
+      go : (b : Bool) → leb rank does_not_fit ≡ b → rank ≤ does_not_fit
+      go true p = leb-true rank does_not_fit p
       go false p =
-          let h = ltb-false said.rank does_not_fit p in
-          let g : does_not_fit < said.rank = omega arith in
-          absurd (none_some (sym (no_other_rank said.rank g ns) ∙ says_leftmost (findings ns) t (omega arith)))
+          let h : does_not_fit < rank = leb-false rank does_not_fit p in
+          absurd (none_some (sym (no_other_rank rank h ns) ∙ says_leftmost (findings ns) t (omega arith)))
+
+  rank_faultless : (rank ≡ does_not_fit → ⊥) → Faultless ns
+  rank_faultless q = fits_faultless ns (none_unfit (omega (arith, rank_most, q)))
+
+  pub verdict_settled : is_settled said ≡ is_faultless ns && (all_plain ns && t)
+  unfolding verdict
+  verdict_settled =
+      by_rank (λ v. is_settled v ≡ eqb rank 0) rank place
+      (λ e. sym (eq-eqb rank 0 e)) (λ e. sym (ne_eqb rank 0 (λ z. omega arith))) (λ e. sym (ne_eqb rank 0 (λ z. omega arith))) (λ a b d. sym (ne_eqb rank 0 a))
+      ∙ rank_settled
+
+  pub verdict_unfit : {k : ℕ} → said ≡ DoesNotFit k → misfit ns ≡ some k
+  unfolding verdict
+  verdict_unfit {k} =
+      by_rank (λ v. v ≡ DoesNotFit k → misfit ns ≡ some k) rank place
+      (λ e q. absurd (let y : ◌≡◌ {A = ℕ} 0 1 = cc in omega arith)) (λ e q. absurd (let y : ◌≡◌ {A = ℕ} 0 1 = cc in omega arith))
+      (λ e q. let z : place ≡ k = cc in rank_unfit e ∙ ap some z)
+      (λ a b d q. absurd (let y : ◌≡◌ {A = ℕ} 0 1 = cc in omega arith))
+
+  pub verdict_not_plain : {k : ℕ} → said ≡ NotPlain k → (misfit ns ≡ nothing) × (not_plain ns ≡ some k)
+  unfolding verdict
+  verdict_not_plain {k} =
+      by_rank (λ v. v ≡ NotPlain k → (misfit ns ≡ nothing) × (not_plain ns ≡ some k)) rank place
+      (λ e q. absurd (let y : ◌≡◌ {A = ℕ} 0 1 = cc in omega arith))
+      (λ e q. let z : place ≡ k = cc in ((rank_not_plain e).0, (rank_not_plain e).1 ∙ ap some z))
+      (λ e q. absurd (let y : ◌≡◌ {A = ℕ} 0 1 = cc in omega arith)) (λ a b d q. absurd (let y : ◌≡◌ {A = ℕ} 0 1 = cc in omega arith))
+
+  pub verdict_plain : is_plain_verdict said ≡ true → (misfit ns ≡ nothing) × (not_plain ns ≡ nothing)
+  unfolding verdict
+  verdict_plain =
+      by_rank (λ v. is_plain_verdict v ≡ true → (misfit ns ≡ nothing) × (not_plain ns ≡ nothing)) rank place
+      (λ e q. rank_plain (omega arith)) (λ e q. absurd (clash q refl)) (λ e q. absurd (clash q refl)) (λ a b d q. rank_plain (omega (arith, rank_most, a, b, d)))
+
+  pub verdict_faultless : ((k : ℕ) → said ≡ DoesNotFit k → ⊥) → Faultless ns
+  unfolding verdict
+  verdict_faultless =
+      by_rank (λ v. ((k : ℕ) → v ≡ DoesNotFit k → ⊥) → Faultless ns) rank place
+      (λ e q. rank_faultless (λ z. omega arith)) (λ e q. rank_faultless (λ z. omega arith)) (λ e q. absurd (q place refl)) (λ a b d q. rank_faultless d)

@@ -1,7 +1,8 @@
 -- What is told of a text: why it is refused; or the header and the body of its record, and whether it is settled.
-use Rattle.std.specs.Prelude.{ℕ, ◌<◌, ◌≡◌, List, Bool, true, false, length}
+use Rattle.std.specs.Prelude.{Result, Ok, Err, ℕ, ◌<◌, ◌≡◌, List, Bool, length}
 use Rattle.record.specs.declared.Header.{Header}
 use Rattle.record.specs.declared.HgvsVariant.{HgvsVariant}
+use Rattle.record.specs.declared.Refusal.{Refusal}
 use Rattle.record.specs.declared.Refusal.TheVariants.{TooLong}
 use Rattle.grammar.specs.Texts.{all_letters}
 use Rattle.lang_na_edits.proofs.Alphabet.{alphabets}
@@ -12,7 +13,6 @@ use Rattle.promise.specs.Reading.{Reads}
 use Rattle.any_body.specs.declared.AnyBody.{AnyBody}
 use Rattle.any_body.specs.AnyBodies.{any_body}
 use Rattle.read_text.specs.declared.Reading.{Reading}
-use Rattle.read_text.specs.declared.Reading.TheVariants.{Refused, Settled, Unsettled}
 
 -- the record that the text reads as has this header and this body
 pub record ReadAs (t : List ℕ) (h : Header) (b : AnyBody) (settled : Bool) : Type 0 where
@@ -22,10 +22,9 @@ pub record ReadAs (t : List ℕ) (h : Header) (b : AnyBody) (settled : Bool) : T
   pub body_is : any_body variant.body ≡ b
   pub settled_is : settled ≡ is_settled all_letters alphabets t
 
-abbrev pub Tells : List ℕ → Reading → Type 0
-Tells t (Refused why) = Reads all_letters t (refusal_outcome why)
-Tells t (Settled h b) = ReadAs t h b true
-Tells t (Unsettled h b) = ReadAs t h b false
+abbrev pub Tells : List ℕ → Result Reading Refusal → Type 0
+Tells t (Err why) = Reads all_letters t (refusal_outcome why)
+Tells t (Ok r) = ReadAs t r.header r.body r.settled
 
-pub long_told : (t : List ℕ) → limit < length t → Tells t (Refused TooLong)
+pub long_told : (t : List ℕ) → limit < length t → Tells t (Err TooLong)
 long_told t h = outcome_reads all_letters alphabets t (long_outcome all_letters alphabets t h)

@@ -1,6 +1,7 @@
 -- What is found for the tree of a text: its record's header, its record's body as one of any kind, and its faults.
 use Rattle.std.proofs.Math.Option.{Option, none, some}
-use Rattle.std.specs.Prelude.{Bool, true, false}
+use Rattle.std.specs.Prelude as Prelude
+use Rattle.std.specs.Prelude.{Bool, true, false, None, Some}
 use Rattle.record.specs.declared.Kind.{Kind}
 use Rattle.record.specs.declared.Kind.TheVariants.{Cds, Genome, Mt, Tx, Prot, Rna}
 use Rattle.record.specs.declared.Header.{Header}
@@ -21,10 +22,6 @@ is_protein Tx = false
 is_protein Prot = true
 is_protein Rna = false
 
-pub data TextFound : Type 0 where
-  nothing : TextFound
-  found : Header → AnyBody → Faults → TextFound
-
-unfoldable pub text_answer : Option Text → TextFound
-text_answer none = TextFound.nothing
-text_answer (some x) = TextFound.found (record_at 0 x).header (any_body (record_at 0 x).body) (faults (numbers_at 0 x) (settled_text x))
+unfoldable pub text_answer : Option Text → Prelude.Option (Header × (AnyBody × Faults))
+text_answer none = None
+text_answer (some x) = Some ((record_at 0 x).header, (any_body (record_at 0 x).body, faults (numbers_at 0 x) (settled_text x)))

@@ -2,7 +2,6 @@
 #![tactic(auto)]
 
 ghost use Rattle.std.specs.Prelude.{◌≡◌, ◌+◌, ◌≤◌, length};
-ghost use Rattle.alphabet.specs.Cells.{IsTable};
 ghost use Rattle.grammar.specs.Texts.{all_letters};
 ghost use Rattle.lang_na_edits.proofs.Alphabet.{alphabets};
 ghost use Rattle.lang_bodies.proofs.BodyLang.{parse_body};
@@ -11,67 +10,52 @@ ghost use Rattle.read_text.specs.TextAnswers.{is_protein};
 ghost use Rattle.read_text.specs.Telling.{Tells};
 
 use any_body::AnyBody;
-use read_header::{HeaderRead, KindRead};
-use read_na_body::BodyRead;
+use read_scan::{Faults, Verdict};
 use record::{Header, Kind, Refusal};
 
-// What reading a text tells: the refusal; or the header and the body of its record. A text is settled where its spelling shows that it is the shortest text of
-// its record.
+// What reading tells of a text that is not refused: the header and the body of its record, and whether it is settled. A text is settled where its spelling shows
+// that it is the shortest text of its record.
 #[derive(Clone, Copy)]
-pub enum Reading {
-    Refused(Refusal),
-    Settled(Header, AnyBody),
-    Unsettled(Header, AnyBody),
+pub struct Reading {
+    pub header: Header,
+    pub body: AnyBody,
+    pub settled: bool,
 }
 
 fn is_protein(kind: Kind) -> bool
     ensures { result ≡ is_protein kind }
 {
-    match kind {
-        Kind::Cds => false,
-        Kind::Genome => false,
-        Kind::Mt => false,
-        Kind::Tx => false,
-        Kind::Prot => true,
-        Kind::Rna => false,
-    }
+    matches!(kind, Kind::Prot)
 }
 
-fn body_at(table: &[u8; 256], kind: Kind, s: &[u8], at: usize) -> BodyRead
-    requires { (at + length s.now ≤ 4096) × IsTable table.now }
+fn body_at(kind: Kind, s: &[u8], at: usize) -> Option<(AnyBody, Faults)>
+    requires { at + length s.now ≤ 4096 }
     ensures { result ≡ body_answer kind at (parse_body all_letters alphabets kind s.now) }
 {
     if is_protein(kind) {
-        return read_protein_body::prot_body(table, s, at);
+        read_protein_body::prot_body(s, at)
+    } else {
+        read_na_body::na_body(kind, s, at)
     }
-    read_na_body::na_body(table, kind, s, at)
 }
 
 // Any bytes; digit strings of any length are allowed until the whole text is read.
-pub fn reading_of(text: &[u8]) -> Reading
+pub fn reading_of(text: &[u8]) -> Result<Reading, Refusal>
     ensures { Tells text.now result }
 {
     if 4096 < text.len() {
-        return Reading::Refused(Refusal::TooLong);
+        return Err(Refusal::TooLong);
     }
-    let table = alphabet::classes();
-    let HeaderRead::Found(header, n) = read_header::header_at(&table, text, 0) else {
-        return Reading::Refused(Refusal::NotInGrammar);
-    };
-    let KindRead::Found(kind) = read_header::kind_at(&text[n..]) else {
-        return Reading::Refused(Refusal::NotInGrammar);
-    };
+    let (header, n) = read_header::header_at(text, 0).ok_or(Refusal::NotInGrammar)?;
+    let kind = read_header::kind_at(&text[n..]).ok_or(Refusal::NotInGrammar)?;
     let k = n + 3;
-    let BodyRead::Found(body, faults) = body_at(&table, kind, &text[k..], k) else {
-        return Reading::Refused(Refusal::NotInGrammar);
-    };
-    let said = read_scan::verdict_of(faults);
-    let rank = said.rank;
-    if rank == read_scan::DOES_NOT_FIT {
-        return Reading::Refused(Refusal::DoesNotFit(said.place));
+    let (body, faults) = body_at(kind, &text[k..], k).ok_or(Refusal::NotInGrammar)?;
+    match faults.verdict() {
+        Verdict::DoesNotFit(place) => Err(Refusal::DoesNotFit(place)),
+        said => Ok(Reading {
+            header,
+            body,
+            settled: said.is_settled(),
+        }),
     }
-    if rank == read_scan::SETTLED {
-        return Reading::Settled(header, body);
-    }
-    Reading::Unsettled(header, body)
 }

@@ -1,6 +1,6 @@
 -- Reading a text has one answer.
 use Rattle.std.specs.Prelude.{ℕ, ◌≡◌, List}
-use Rattle.record.specs.declared.ReadAnswer.{ReadAnswer}
+use Rattle.record.specs.Named.{ReadAnswer}
 use Rattle.grammar.specs.Texts.{Text, print, Wf, all_letters}
 use Rattle.lang_bodies.proofs.WholeText.{unambiguous}
 use Rattle.promise.specs.Outcome.{read_outcome}

@@ -9,22 +9,14 @@ pub struct Span {
 }
 
 // A part that may be missing. An empty part that is there is not a missing one.
-#[derive(Clone, Copy)]
-pub enum Part {
-    Absent,
-    Present(Span),
-}
+pub type Part = Option<Span>;
 
 // Positions and intervals, in the crate's names; numbers are i32.
 
 // An offset of 0 is not a missing one.
-#[derive(Clone, Copy)]
-pub enum Offset {
-    Absent,
-    By(i32),
-}
+pub type Offset = Option<i32>;
 
-#[derive(Clone, Copy)]
+#[derive(Clone, Copy, PartialEq, Eq)]
 pub enum CdsFrom {
     Start,
     End,
@@ -37,29 +29,21 @@ pub struct CdsPos {
     pub cds_from: CdsFrom,
 }
 
-#[derive(Clone, Copy)]
-pub enum GenomePos {
-    Unknown,
-    At(i32),
-}
+// `?` is none.
+pub type GenomePos = Option<i32>;
 
-#[derive(Clone, Copy)]
-pub enum MtPos {
-    Unknown,
-    At(i32),
-}
+pub type MtPos = Option<i32>;
 
+// A base from the start, of n and r.
 #[derive(Clone, Copy)]
-pub struct TxPos {
+pub struct BasePos {
     pub base: i32,
     pub offset: Offset,
 }
 
-#[derive(Clone, Copy)]
-pub struct RnaPos {
-    pub base: i32,
-    pub offset: Offset,
-}
+pub type TxPos = BasePos;
+
+pub type RnaPos = BasePos;
 
 #[derive(Clone, Copy)]
 pub struct ProtPos {
@@ -67,42 +51,26 @@ pub struct ProtPos {
     pub number: i32,
 }
 
+// Two ends of one kind.
 #[derive(Clone, Copy)]
-pub struct CdsInterval {
-    pub start: CdsPos,
-    pub end: CdsPos,
+pub struct Interval<P> {
+    pub start: P,
+    pub end: P,
 }
 
-#[derive(Clone, Copy)]
-pub struct GenomeInterval {
-    pub start: GenomePos,
-    pub end: GenomePos,
-}
+pub type CdsInterval = Interval<CdsPos>;
 
-#[derive(Clone, Copy)]
-pub struct MtInterval {
-    pub start: MtPos,
-    pub end: MtPos,
-}
+pub type GenomeInterval = Interval<GenomePos>;
 
-#[derive(Clone, Copy)]
-pub struct TxInterval {
-    pub start: TxPos,
-    pub end: TxPos,
-}
+pub type MtInterval = Interval<MtPos>;
 
-#[derive(Clone, Copy)]
-pub struct RnaInterval {
-    pub start: RnaPos,
-    pub end: RnaPos,
-}
+pub type TxInterval = Interval<TxPos>;
 
-#[derive(Clone, Copy)]
-pub struct ProtInterval {
-    pub start: ProtPos,
-    pub end: ProtPos,
-}
+pub type RnaInterval = Interval<RnaPos>;
 
+pub type ProtInterval = Interval<ProtPos>;
+
+// An enum for each kind, of its own: a form that this project keeps.
 #[derive(Clone, Copy)]
 pub enum MuCdsInterval {
     Certain(CdsInterval),
@@ -189,7 +157,7 @@ pub enum MuProteinEdit {
 // A variant: the header beside a body of one of six kinds.
 
 // The kind letters c, g, m, n, p and r.
-#[derive(Clone, Copy)]
+#[derive(Clone, Copy, PartialEq, Eq)]
 pub enum Kind {
     Cds,
     Genome,
@@ -205,35 +173,22 @@ pub struct Header {
     pub gene_symbol: Part,
 }
 
+// Location and edit of a nucleotide kind.
 #[derive(Clone, Copy)]
-pub struct CdsLocEdit {
-    pub loc: MuCdsInterval,
+pub struct LocEdit<L> {
+    pub loc: L,
     pub edit: MuNaEdit,
 }
 
-#[derive(Clone, Copy)]
-pub struct GenomeLocEdit {
-    pub loc: MuGenomeInterval,
-    pub edit: MuNaEdit,
-}
+pub type CdsLocEdit = LocEdit<MuCdsInterval>;
 
-#[derive(Clone, Copy)]
-pub struct MtLocEdit {
-    pub loc: MuMtInterval,
-    pub edit: MuNaEdit,
-}
+pub type GenomeLocEdit = LocEdit<MuGenomeInterval>;
 
-#[derive(Clone, Copy)]
-pub struct TxLocEdit {
-    pub loc: MuTxInterval,
-    pub edit: MuNaEdit,
-}
+pub type MtLocEdit = LocEdit<MuMtInterval>;
 
-#[derive(Clone, Copy)]
-pub struct RnaLocEdit {
-    pub loc: MuRnaInterval,
-    pub edit: MuNaEdit,
-}
+pub type TxLocEdit = LocEdit<MuTxInterval>;
+
+pub type RnaLocEdit = LocEdit<MuRnaInterval>;
 
 #[derive(Clone, Copy)]
 pub enum ProtLocEdit {
@@ -263,14 +218,14 @@ pub struct HgvsVariant {
 }
 
 // Which text of a record is to be written: its shortest, or the one without the reference.
-#[derive(Clone, Copy)]
+#[derive(Clone, Copy, PartialEq, Eq)]
 pub enum Wording {
     Shortest,
     NoRef,
 }
 
 // Why an operation gives nothing, in the order of the numbers.
-#[derive(Clone, Copy)]
+#[derive(Clone, Copy, PartialEq, Eq)]
 pub enum Refusal {
     TooLong,
     NotInGrammar,
@@ -283,23 +238,10 @@ pub enum Refusal {
     BadLine,
 }
 
-// What reading, writing and measuring answer.
+// What reading, writing and measuring answer: the record, the length of the text, the width.
 
-#[derive(Clone, Copy)]
-pub enum ReadAnswer {
-    Accepted(HgvsVariant),
-    Refused(Refusal),
-}
+pub type ReadAnswer = Result<HgvsVariant, Refusal>;
 
-#[derive(Clone, Copy)]
-pub enum WriteAnswer {
-    // the length of the text
-    Written(usize),
-    Refused(Refusal),
-}
+pub type WriteAnswer = Result<usize, Refusal>;
 
-#[derive(Clone, Copy)]
-pub enum WidthAnswer {
-    Width(u64),
-    Refused(Refusal),
-}
+pub type WidthAnswer = Result<u64, Refusal>;

@@ -1,4 +1,5 @@
 -- Laws of the functions: a row is found where three letters stand, the bytes of residues, and texts that are residues as a whole.
+use Rattle.std.specs.Prelude.{is_some, Option, Some}
 use Prim.Native.Nat.{ℕ, suc, ◌+◌, ◌-◌, ◌≤◌}
 use mathlib.Core.Path.{◌≡◌, refl, sym, ap, ◌∙◌}
 use mathlib.Core.Bool.{Bool, true, false, cond, ◌||◌}
@@ -16,22 +17,16 @@ use Rattle.texts.proofs.Slices.{tail_part}
 use Rattle.alphabet.specs.Letters.{residue}
 use Rattle.residue_rows.specs.Rows.{rows, first_from, row_of}
 use Rattle.residue_rows.specs.EachRow.{each, long, rows_long}
-use Rattle.residue_rows.specs.declared.RowFound.{RowFound}
-use Rattle.residue_rows.specs.declared.RowFound.TheVariants.{Row, Nothing}
 use Rattle.residue.specs.Residues.{one_of, is_three, is_one}
 use Rattle.residue.specs.Reading.{residue_len, threes_len, residues_len}
 use Rattle.residue.proofs.ResiduesRead.{three_length, taken_le, some_threes, no_threes}
 
 -- ---- a row is found exactly where three letters stand at the front
-abbrev pub found : RowFound → Bool
-found (Row i) = true
-found Nothing = false
-
-found_cond : (t : Bool) (i : ℕ) (o : RowFound) (u : Bool) → found o ≡ u → found (cond t (Row i) o) ≡ t || u
+found_cond : (t : Bool) (i : ℕ) (o : Option ℕ) (u : Bool) → is_some o ≡ u → is_some (cond t (Some i) o) ≡ t || u
 found_cond true i o u e = refl
 found_cond false i o u e = e
 
-found_from : (i : ℕ) (rs : List (List ℕ)) (s : List ℕ) → each long rs ≡ true → found (first_from i rs s) ≡ one_of rs (take 3 s)
+found_from : (i : ℕ) (rs : List (List ℕ)) (s : List ℕ) → each long rs ≡ true → is_some (first_from i rs s) ≡ one_of rs (take 3 s)
 unfolding first_from one_of
 found_from i [] s h = refl
 found_from i (r ∷ rs) s h =
@@ -39,16 +34,16 @@ found_from i (r ∷ rs) s h =
     let e : starts r s ≡ same r (take 3 s) = starts_take r s ∙ rw (eqb-true (length r) 3 p.0) in
     rw e (found_cond (same r (take 3 s)) i (first_from (suc i) rs s) (one_of rs (take 3 s)) (found_from (suc i) rs s p.1))
 
-found_three : (s : List ℕ) → found (row_of s) ≡ is_three (take 3 s)
+found_three : (s : List ℕ) → is_some (row_of s) ≡ is_three (take 3 s)
 unfolding row_of is_three
 found_three s = found_from 0 rows s rows_long
 
-pub row_three : (s : List ℕ) {o x : RowFound} → o ≡ row_of s → o ≡ x → is_three (take 3 s) ≡ found x
-row_three s e f = sym (found_three s) ∙ ap found (sym e ∙ f)
+pub row_three : (s : List ℕ) {o : Option ℕ} {t u : Bool} → o ≡ row_of s → t ≡ is_some o → t ≡ u → is_three (take 3 s) ≡ u
+row_three s e f g = sym (found_three s) ∙ ap is_some (sym e) ∙ sym f ∙ g
 
 -- the row looked for in `&s[i..]`
-pub row_three_from : (s : List ℕ) (i : ℕ) {o x : RowFound} → o ≡ row_of (take (length s - i) (drop i s)) → o ≡ x → is_three (take 3 (drop i s)) ≡ found x
-row_three_from s i e f = row_three (drop i s) (rw tail_part at e) f
+pub row_three_from : (s : List ℕ) (i : ℕ) {o : Option ℕ} {t u : Bool} → o ≡ row_of (take (length s - i) (drop i s)) → t ≡ is_some o → t ≡ u → is_three (take 3 (drop i s)) ≡ u
+row_three_from s i e f g = row_three (drop i s) (rw tail_part at e) f g
 
 pub three_from_le : (s : List ℕ) (i : ℕ) → i ≤ length s → is_three (take 3 (drop i s)) ≡ true → i + 3 ≤ length s
 three_from_le s i h t = omega (arith, length-drop i s, taken_le 3 (drop i s) (three_length (take 3 (drop i s)) t))

@@ -1,5 +1,5 @@
 -- Laws of residues: what is read at the front of a text is a residue, and each residue is read.
-use Rattle.std.specs.Prelude.{ℕ, ◌+◌, ◌≡◌, false}
+use Rattle.std.specs.Prelude.{ℕ, ◌≡◌, false}
 use mathlib.Core.List.{List, ◌++◌}
 use Rattle.texts.specs.Ascii.{ascii}
 use Rattle.residue.specs.Reading.{continues}

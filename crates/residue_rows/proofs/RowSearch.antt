@@ -1,4 +1,5 @@
 -- Laws of the search in a row, and of texts that are too short for one.
+use Rattle.std.specs.Prelude.{None}
 use Prim.Native.Nat.{ℕ, suc, ◌+◌, ◌≤◌, ◌<◌}
 use mathlib.Core.Path.{◌≡◌, refl, ◌∙◌}
 use mathlib.Core.Bool.{true, false}
@@ -11,7 +12,6 @@ use Rattle.texts.specs.Words.{starts}
 use Rattle.texts.proofs.Words.{starts_length, starts_more, starts_differ, starts_end}
 use Rattle.residue_rows.specs.Rows.{rows, first_from, row_of}
 use Rattle.residue_rows.specs.EachRow.{each, long, rows_long, row_length}
-use Rattle.residue_rows.specs.declared.RowFound.TheVariants.{Nothing}
 
 -- ---- one byte more of a row, as the search goes
 module _ (s : List ℕ) (i j : ℕ) (hi : i < 25) (hj : j < 3) (hs : 3 ≤ length s) (inv : starts (get_or rows i []) s ≡ starts (drop j (get_or rows i [])) (drop j s)) where
@@ -28,7 +28,7 @@ module _ (s : List ℕ) (i j : ℕ) (hi : i < 25) (hj : j < 3) (hs : 3 ≤ lengt
   last_byte e l = same_byte e ∙ starts_end (get_or rows i []) s (j + 1) (omega (arith, row_length i hi))
 
 -- ---- a text of fewer than three bytes
-none_short : (i : ℕ) (rs : List (List ℕ)) (s : List ℕ) → length s < 3 → each long rs ≡ true → first_from i rs s ≡ Nothing
+none_short : (i : ℕ) (rs : List (List ℕ)) (s : List ℕ) → length s < 3 → each long rs ≡ true → first_from i rs s ≡ None
 unfolding first_from
 none_short i [] s h e = refl
 none_short i (r ∷ rs) s h e =
@@ -36,6 +36,6 @@ none_short i (r ∷ rs) s h e =
     let n : starts r s ≡ false = never (starts r s) (λ q. omega (arith, starts_length r s q, eqb-true (length r) 3 p.0)) in
     rw n (none_short (suc i) rs s h p.1)
 
-pub short_none : (s : List ℕ) → length s < 3 → row_of s ≡ Nothing
+pub short_none : (s : List ℕ) → length s < 3 → row_of s ≡ None
 unfolding row_of
 short_none s h = none_short 0 rows s h rows_long

@@ -1,9 +1,7 @@
 -- The rows that begin with a letter, their numbers packed into one, and the search among them.
-use Rattle.std.specs.Prelude.{ℕ, zero, suc, ◌+◌, ◌*◌, cond, List, [], ◌∷◌, eqb, get_or}
+use Rattle.std.specs.Prelude.{ℕ, zero, suc, ◌+◌, ◌*◌, cond, List, [], ◌∷◌, eqb, get_or, Option, Some, None}
 use Rattle.texts.specs.Words.{starts}
 use Rattle.residue_rows.specs.Rows.{rows}
-use Rattle.residue_rows.specs.declared.RowFound.{RowFound}
-use Rattle.residue_rows.specs.declared.RowFound.TheVariants.{Row, Nothing}
 
 abbrev pub letter_of : ℕ → ℕ
 letter_of i = get_or (get_or rows i []) 0 0
@@ -22,6 +20,6 @@ packed [] = 255
 packed (i ∷ is) = i + 256 * packed is
 
 -- the first of the rows of these numbers that s starts with
-unfoldable pub first_of : List ℕ → List ℕ → RowFound
-first_of [] s = Nothing
-first_of (i ∷ is) s = cond (starts (get_or rows i []) s) (Row i) (first_of is s)
+unfoldable pub first_of : List ℕ → List ℕ → Option ℕ
+first_of [] s = None
+first_of (i ∷ is) s = cond (starts (get_or rows i []) s) (Some i) (first_of is s)

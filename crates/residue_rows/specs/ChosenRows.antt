@@ -1,5 +1,5 @@
 -- Only rows that begin with the text's first byte can agree with it: the search among them answers as the search through all.
-use Rattle.std.specs.Prelude.{ℕ, zero, suc, ◌+◌, ◌≤◌, ◌<◌, ◌≡◌, refl, Bool, true, false, cond, ◌||◌, List, [], ◌∷◌, eqb, length, drop, get_or}
+use Rattle.std.specs.Prelude.{ℕ, zero, suc, ◌+◌, ◌≤◌, ◌<◌, ◌≡◌, refl, Bool, true, false, cond, ◌||◌, List, [], ◌∷◌, eqb, length, drop, get_or, Some}
 use Rattle.std.proofs.Common.{◌∙◌, arith, drop-cons, ne_eqb}
 use Rattle.std.proofs.lemmas.Bool.{eqb-false}
 use Rattle.texts.specs.Ascii.{ascii}
@@ -9,10 +9,9 @@ use Rattle.texts.proofs.Words.{starts_differ}
 use Rattle.residue_rows.specs.Rows.{rows, first_from}
 use Rattle.residue_rows.specs.EachRow.{each, each_at, row_length}
 use Rattle.residue_rows.specs.Beginning.{letter_of, beginning_from, beginning, first_of}
-use Rattle.residue_rows.specs.declared.RowFound.TheVariants.{Row}
 
 -- ---- a row that does not begin with the text's first byte
-row_from : (s : List ℕ) (i : ℕ) → i < 25 → first_from i (drop i rows) s ≡ cond (starts (get_or rows i []) s) (Row i) (first_from (suc i) (drop (suc i) rows) s)
+row_from : (s : List ℕ) (i : ℕ) → i < 25 → first_from i (drop i rows) s ≡ cond (starts (get_or rows i []) s) (Some i) (first_from (suc i) (drop (suc i) rows) s)
 unfolding first_from rows
 row_from s i h = rw (drop-cons rows i [])
 

@@ -1,9 +1,7 @@
 -- The three-letter residues, and the first of them that a text starts with.
-use Rattle.std.specs.Prelude.{ℕ, suc, cond, List, [], ◌∷◌}
+use Rattle.std.specs.Prelude.{ℕ, suc, cond, List, [], ◌∷◌, Option, Some, None}
 use Rattle.texts.specs.Ascii.{ascii}
 use Rattle.texts.specs.Words.{starts}
-use Rattle.residue_rows.specs.declared.RowFound.{RowFound}
-use Rattle.residue_rows.specs.declared.RowFound.TheVariants.{Row, Nothing}
 
 unfoldable pub rows : List (List ℕ)
 rows =
@@ -35,9 +33,9 @@ rows =
     []
 
 -- the number of the first of the rows, counted from i, that s starts with
-unfoldable pub first_from : ℕ → List (List ℕ) → List ℕ → RowFound
-first_from i [] s = Nothing
-first_from i (r ∷ rs) s = cond (starts r s) (Row i) (first_from (suc i) rs s)
+unfoldable pub first_from : ℕ → List (List ℕ) → List ℕ → Option ℕ
+first_from i [] s = None
+first_from i (r ∷ rs) s = cond (starts r s) (Some i) (first_from (suc i) rs s)
 
-unfoldable pub row_of : List ℕ → RowFound
+unfoldable pub row_of : List ℕ → Option ℕ
 row_of s = first_from 0 rows s

@@ -5,44 +5,18 @@ ghost use Rattle.std.specs.Prelude.{◌≡◌};
 ghost use Rattle.residue_rows.specs.Rows.{row_of};
 ghost use Rattle.residue_rows.specs.Beginning.{beginning, packed};
 
-const ROWS: [[u8; 3]; 25] = [
-    [b'A', b'l', b'a'],
-    [b'C', b'y', b's'],
-    [b'A', b's', b'p'],
-    [b'G', b'l', b'u'],
-    [b'P', b'h', b'e'],
-    [b'G', b'l', b'y'],
-    [b'H', b'i', b's'],
-    [b'I', b'l', b'e'],
-    [b'L', b'y', b's'],
-    [b'L', b'e', b'u'],
-    [b'M', b'e', b't'],
-    [b'A', b's', b'n'],
-    [b'P', b'r', b'o'],
-    [b'G', b'l', b'n'],
-    [b'A', b'r', b'g'],
-    [b'S', b'e', b'r'],
-    [b'T', b'h', b'r'],
-    [b'V', b'a', b'l'],
-    [b'T', b'r', b'p'],
-    [b'T', b'y', b'r'],
-    [b'A', b's', b'x'],
-    [b'G', b'l', b'x'],
-    [b'X', b'a', b'a'],
-    [b'S', b'e', b'c'],
-    [b'T', b'e', b'r'],
+// Indexed by a residue's number.
+static ROWS: [[u8; 3]; 25] = [
+    *b"Ala", *b"Cys", *b"Asp", *b"Glu", *b"Phe", *b"Gly", *b"His", *b"Ile", *b"Lys", *b"Leu",
+    *b"Met", *b"Asn", *b"Pro", *b"Gln", *b"Arg", *b"Ser", *b"Thr", *b"Val", *b"Trp", *b"Tyr",
+    *b"Asx", *b"Glx", *b"Xaa", *b"Sec", *b"Ter",
 ];
 
 // A byte that is no row's number.
 const NO_ROW: usize = 255;
 
-#[derive(Clone, Copy)]
-pub enum RowFound {
-    Row(usize),
-    Nothing,
-}
-
-// The rows that begin with a letter, as one number: a byte a row, the first row lowest, and NO_ROW behind the last.
+// The rows that begin with a letter, as one number: a byte a row, the first row lowest, and NO_ROW behind the last. The laws of `PackedRows` speak of it.
+#[tactic(auto, unfolding(crate::specs::Rows::rows, crate::specs::Beginning::beginning, crate::specs::Beginning::beginning_from, crate::specs::Beginning::packed))]
 fn rows_beginning(letter: u8) -> usize
     ensures { result ≡ packed (beginning letter) }
 {
@@ -64,27 +38,27 @@ fn rows_beginning(letter: u8) -> usize
 }
 
 // The first row whose three bytes all agree with the first bytes of `s`. Only rows that begin with its first byte are looked at.
-pub fn find_row(s: &[u8]) -> RowFound
+// Nested loops over rows and bytes, left by a label with the row found: a form that this project keeps.
+pub fn find_row(s: &[u8]) -> Option<usize>
     ensures { result ≡ row_of s.now }
 {
     if s.len() < 3 {
-        return RowFound::Nothing;
+        return None;
     }
     let mut left = rows_beginning(s[0]);
     if left == NO_ROW {
-        return RowFound::Nothing;
+        return None;
     }
-    let rows = ROWS;
     'rows: loop {
         let i = left % 256;
         if i >= 25 {
-            break 'rows RowFound::Nothing;
+            break 'rows None;
         }
         let mut j: usize = 0;
-        while rows[i][j] == s[j] {
+        while ROWS[i][j] == s[j] {
             j += 1;
             if j == 3 {
-                break 'rows RowFound::Row(i);
+                break 'rows Some(i);
             }
         }
         left = left / 256;

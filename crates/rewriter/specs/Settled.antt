@@ -5,7 +5,7 @@ use Rattle.std.proofs.Math.Option.{some}
 use Rattle.texts.proofs.Tests.{and-true}
 use Rattle.record.specs.declared.HgvsVariant.{HgvsVariant}
 use Rattle.record.specs.declared.Wording.TheVariants.{Shortest}
-use Rattle.record.specs.declared.WriteAnswer.{WriteAnswer}
+use Rattle.record.specs.Named.{WriteAnswer}
 use Rattle.grammar.specs.Texts.{all_letters}
 use Rattle.grammar.specs.Contents.{content}
 use Rattle.grammar.proofs.ContentLaw.{content_is}

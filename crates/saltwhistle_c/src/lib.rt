@@ -7,7 +7,6 @@ ghost use Rattle.promise.specs.NoRef.{NoRefText};
 ghost use Rattle.numbered.specs.TextOperations.{Checks, Rewrites, Gauges};
 
 use numbered::Answer;
-use read_text::Reading;
 
 // Whether the text is one of the grammar whose numbers fit.
 #[unsafe(no_mangle)]
@@ -15,9 +14,8 @@ pub extern "C" fn saltwhistle_check(text: &[u8]) -> Answer
     ensures { Checks text.now result }
 {
     match read_text::reading_of(text) {
-        Reading::Refused(why) => numbered::of_refusal(why),
-        Reading::Settled(_, _) => numbered::bare(0, 0),
-        Reading::Unsettled(_, _) => numbered::bare(0, 0),
+        Ok(_) => numbered::bare(0, 0),
+        Err(why) => why.into(),
     }
 }
 
@@ -43,10 +41,7 @@ pub extern "C" fn saltwhistle_width(text: &[u8]) -> Answer
     ensures { Gauges text.now result }
 {
     match read_text::reading_of(text) {
-        Reading::Refused(why) => numbered::of_refusal(why),
-        Reading::Settled(header, b) => numbered::of_width(measure_any::width_any(text, header, b)),
-        Reading::Unsettled(header, b) => numbered::of_width(measure_any::width_any(
-            text, header, b,
-        )),
+        Ok(reading) => measure_any::width_any(text, reading.header, reading.body).into(),
+        Err(why) => why.into(),
     }
 }

@@ -1,5 +1,5 @@
 -- What is written for the header and the body of a record is what the record asks for.
-use Rattle.std.specs.Prelude.{ℕ, ◌≡◌, List, Bool, length}
+use Rattle.std.specs.Prelude.{ℕ, ◌≡◌, List, Bool, length, Ok, Err}
 use Rattle.std.proofs.Math.Path.{refl}
 use Rattle.std.proofs.Math.Bool.{true, false}
 use Rattle.std.proofs.Math.Dec.{leb}
@@ -7,7 +7,7 @@ use Rattle.std.proofs.Common.{leb-true, leb-false}
 use Rattle.record.specs.declared.Header.{Header}
 use Rattle.record.specs.declared.HgvsVariant.{HgvsVariant}
 use Rattle.record.specs.declared.Wording.{Wording}
-use Rattle.record.specs.declared.WriteAnswer.{WriteAnswer}
+use Rattle.record.specs.Named.{WriteAnswer}
 use Rattle.grammar.specs.Texts.{all_letters}
 use Rattle.grammar.specs.Contents.{content}
 use Rattle.promise.specs.Outcome.{write_outcome, limit}
@@ -17,8 +17,7 @@ use Rattle.any_body.specs.declared.AnyBody.{AnyBody}
 use Rattle.any_body.specs.AnyBodies.{any_body}
 use Rattle.emit_draft.specs.Texts.{draft_text}
 use Rattle.emit_text.specs.Answered.{answered, left}
-use Rattle.plan_text.specs.declared.TextPlan.{TextPlan}
-use Rattle.plan_text.specs.declared.TextPlan.TheVariants.{Refused, Text}
+use Rattle.plan_text.specs.Named.{TextPlan}
 use Rattle.plan_record.specs.RecordPlans.{record_plan}
 use Rattle.plan_record.specs.PlanSays.{Says, plan_says}
 use Rattle.write_any.specs.PlanWritten.{plan_answered, plan_left}
@@ -39,8 +38,8 @@ module _ (source : List ℕ) (v : HgvsVariant) (output : List ℕ) (w : Wording)
         go true true e f = rw (e, f, answered, left) (Writes.written sound t wanted (leb-true (length t) limit e) (leb-true (length t) (length output) f))
 
   said_writes : (p : TextPlan) → Says source w v p → Answers (plan_answered source p output) (plan_left source p output)
-  said_writes (Refused r) says = rw says.1 (Writes.unsound _ says.0)
-  said_writes (Text d) says = text_writes says.0 (draft_text source d) says.1
+  said_writes (Err r) says = rw says.1 (Writes.unsound _ says.0)
+  said_writes (Ok d) says = text_writes says.0 (draft_text source d) says.1
 
   module _ (h : Header) (b : AnyBody) (header_is : v.header ≡ h) (body_is : any_body v.body ≡ b) where
     pub any_writes : (a : WriteAnswer) (o : List ℕ) → a ≡ plan_answered source (record_plan source w h b) output → o ≡ plan_left source (record_plan source w h b) output → Writes all_letters (Wanted all_letters w) source v output (write_outcome a) o

@@ -6,7 +6,6 @@ ghost use Rattle.plan_record.specs.RecordPlans.{record_plan};
 ghost use Rattle.write_any.specs.PlanWritten.{plan_answered, plan_left};
 
 use any_body::AnyBody;
-use plan_text::TextPlan;
 use record::{Header, Wording, WriteAnswer};
 
 pub fn write_any(
@@ -18,8 +17,6 @@ pub fn write_any(
 ) -> WriteAnswer
     ensures { (result ≡ plan_answered source.now (record_plan source.now wording header b) output.old) × (output.new ≡ plan_left source.now (record_plan source.now wording header b) output.old) }
 {
-    match plan_record::plan_record(source, wording, header, b) {
-        TextPlan::Refused(why) => WriteAnswer::Refused(why),
-        TextPlan::Text(d) => emit_text::write_draft(source, d, output),
-    }
+    let d = plan_record::plan_record(source, wording, header, b)?;
+    emit_text::write_draft(source, d, output)
 }

@@ -1,6 +1,6 @@
 -- Writing a record has one answer and leaves one output: shortest, and without the reference.
 use Rattle.std.specs.Prelude.{ℕ, ◌≡◌, List}
-use Rattle.record.specs.declared.WriteAnswer.{WriteAnswer}
+use Rattle.record.specs.Named.{WriteAnswer}
 use Rattle.record.specs.declared.HgvsVariant.{HgvsVariant}
 use Rattle.grammar.specs.Texts.{all_letters}
 use Rattle.promise.specs.Outcome.{write_outcome}

@@ -8,32 +8,18 @@ ghost use Rattle.promise.specs.NoRef.{NoRefText};
 
 use record::{HgvsVariant, Wording, WriteAnswer};
 
+// Two functions, as they are called, over one: `write_any::write_any`.
+
 // The shortest text, first in byte order among equals, at the front of the output; or the refusal's number, and nothing written.
 pub fn write(source: &[u8], v: HgvsVariant, output: &mut [u8]) -> WriteAnswer
     ensures { Writes all_letters (ToWrite all_letters) source.now v output.old (write_outcome result) output.new }
 {
-    let header = v.header;
-    let body = v.body;
-    write_any::write_any(
-        source,
-        header,
-        any_body::any_body(body),
-        output,
-        Wording::Shortest,
-    )
+    write_any::write_any(source, v.header, v.body.into(), output, Wording::Shortest)
 }
 
 // Header, location and brackets as in shortest writing; the edit without the reference.
 pub fn write_noref(source: &[u8], v: HgvsVariant, output: &mut [u8]) -> WriteAnswer
     ensures { Writes all_letters (NoRefText all_letters) source.now v output.old (write_outcome result) output.new }
 {
-    let header = v.header;
-    let body = v.body;
-    write_any::write_any(
-        source,
-        header,
-        any_body::any_body(body),
-        output,
-        Wording::NoRef,
-    )
+    write_any::write_any(source, v.header, v.body.into(), output, Wording::NoRef)
 }

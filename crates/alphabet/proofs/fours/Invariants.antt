@@ -1,13 +1,13 @@
-use Prim.Native.Nat.{◌+◌, ◌≤◌, ◌-◌}
-use mathlib.Core.Path.{◌≡◌}
-use lib.ListN.{length, drop}
+use Rattle.std.proofs.Common.{◌≡◌, ◌+◌, ◌≤◌, length, drop, ◌-◌}
 use Rattle.texts.specs.Runs.{run}
 use Rattle.alphabet.specs.Classes.{member}
 use Rattle.alphabet.specs.declared.Class.TheVariants.{Nucleotide}
 use Rattle.alphabet.proofs.fours.Given as goal
 
-abbrev pub invariant-loop-counted : goal.invariant-loop-counted
-invariant-loop-counted l = (l.counted ≤ length l.s) × (run (member Nucleotide) l.s ≡ l.counted + run (member Nucleotide) (drop l.counted l.s))
+abbrev pub invariant-loop-rest : goal.invariant-loop-rest
+invariant-loop-rest l =
+    (length l.rest ≤ length l.s) × (l.rest ≡ drop (length l.s - length l.rest) l.s) ×
+    (run (member Nucleotide) l.s + length l.rest ≡ length l.s + run (member Nucleotide) l.rest)
 
-abbrev pub decreases-loop-counted : goal.decreases-loop-counted
-decreases-loop-counted l = length l.s - l.counted
+abbrev pub decreases-loop-rest : goal.decreases-loop-rest
+decreases-loop-rest l = length l.rest

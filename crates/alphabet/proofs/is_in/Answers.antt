@@ -1,18 +1,28 @@
-use Prim.Native.Nat.{ℕ, ◌<◌}
+use Prim.Native.Nat.{ℕ, ◌<◌, ◌≤◌}
 use mathlib.Core.Path.{◌≡◌, ◌∙◌}
-use mathlib.Core.Bool.{Bool}
-use mathlib.Core.List.{List}
-use lib.ListN.{get_or}
-use borrow.Author.Rules.{rules}
+use lib.Dec.{leb}
+use borrow.Author.Tests.{le-leb, lt-leb}
 use Rattle.alphabet.specs.Classes.{member}
-use Rattle.alphabet.specs.Cells.{within, lowest, highest, numbered, IsTable}
+use Rattle.alphabet.specs.Cells.{within, lowest, highest, numbered, Cell}
 use Rattle.alphabet.specs.declared.Class.{Class}
 use Rattle.alphabet.proofs.is_in.Goals as goal
 
--- a byte is of a class where its number lies in the class's range
-told : {ks : List ℕ} {b low high : ℕ} (class : Class) {r : Bool} → IsTable ks → b < 256 → low ≡ lowest class → high ≡ highest class → r ≡ within low high (get_or ks b 0) → r ≡ member class b
-unfolding numbered
-told {b} class h k l u e = rw (l, u) at e ∙ (h.cell b k).rule class
+-- from the class's lowest number on its highest decides, and below it the byte is of another
+module _ {b k low : ℕ} (class : Class) (h : Cell b k) where
+  above : {high : ℕ} → low ≡ lowest class → high ≡ highest class → low ≤ k → leb k high ≡ member class b
+  unfolding numbered within
+  above l u e =
+      let rule : numbered class k ≡ member class b = h.rule class in
+      rw (← l, ← u, le-leb _ _ e) at rule
 
-pub returns : goal.returns
-returns c = told _ c.requires (search rules) c.lowest.ensures c.highest.ensures c.within.ensures
+  below : low ≡ lowest class → k < low → leb low k ≡ member class b
+  unfolding numbered within
+  below l e =
+      let rule : numbered class k ≡ member class b = h.rule class in
+      lt-leb _ _ e ∙ (rw (← l, lt-leb _ _ e) at rule)
+
+pub returns-then-lowest-number : goal.returns-then-lowest-number
+returns-then-lowest-number c = above _ c.number_of-number.ensures c.lowest.ensures c.highest.ensures c.if-lowest-number.true
+
+pub returns-else-lowest-number : goal.returns-else-lowest-number
+returns-else-lowest-number c = below _ c.number_of-number.ensures c.lowest.ensures c.if-lowest-number.false

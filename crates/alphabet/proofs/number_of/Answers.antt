@@ -1,5 +1,6 @@
 use borrow.Author.Rules.{rules}
+use Rattle.alphabet.proofs.Table.{table}
 use Rattle.alphabet.proofs.number_of.Goals as goal
 
 pub returns : goal.returns
-returns c = (c.requires.cell c.args.b (search rules)).odd
+returns c = table.cell c.args.b (search rules)

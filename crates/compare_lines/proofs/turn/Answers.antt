@@ -8,8 +8,8 @@ returns-then-not-t c =
     let u = taken_used a.buffer.now a.line a.piece.now c.take-t.ensures.0 in
     (u.0, u.1, taken_within a.buffer.now a.line a.piece.now c.take-t.ensures.0 (omega arith), omega arith)
 
-pub answer_line-behind-requires : goal.answer_line-behind-requires
-answer_line-behind-requires c =
+pub answer_line-requires : goal.answer_line-requires
+answer_line-requires c =
     let a = c.args in
     omega (arith, taken_within a.buffer.now a.line a.piece.now c.take-t.ensures.0 (omega arith))
 

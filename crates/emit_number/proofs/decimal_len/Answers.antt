@@ -10,4 +10,4 @@ pub loop-w-preserved : goal.loop-w-preserved
 loop-w-preserved c = omega (arith, dec_more_length c.loop-w.w c.loop-w-test.true)
 
 pub returns : goal.returns
-returns c = omega (arith, dec_one_length c.loop-w.w c.loop-w-test.false)
+returns c = (omega (arith, dec_one_length c.loop-w.w c.loop-w-test.false), omega (arith, dec_one_length c.loop-w.w c.loop-w-test.false, dec_short c.args.v (omega arith)))

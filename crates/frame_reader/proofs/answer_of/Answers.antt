@@ -5,16 +5,16 @@ use Rattle.frame_reader.proofs.CallAnswers.{answers_bad, answers_long, answers_o
 use Rattle.frame_reader.proofs.answer_of.Goals as goal
 
 pub returns-then-state : goal.returns-then-state
-returns-then-state c = rw c.refused.ensures (answers_bad _ c.if-state.true)
+returns-then-state c = answers_bad _ c.if-state.true
 
 pub returns-then-state-2 : goal.returns-then-state-2
-returns-then-state-2 c = rw c.refused-then-state-2.ensures (answers_long _ c.if-state.false c.if-state-2.true)
+returns-then-state-2 c = answers_long _ c.if-state.false c.if-state-2.true
 
 pub returns-then-buffer-len : goal.returns-then-buffer-len
-returns-then-buffer-len c = rw c.refused-then-buffer-len.ensures (answers_outside _ c.if-state.false c.if-buffer-len.true)
+returns-then-buffer-len c = answers_outside _ c.if-state.false c.if-buffer-len.true
 
 pub slice_bounds-read-end : goal.slice_bounds-read-end
 slice_bounds-read-end c = sym (length-take-le _ _ c.if-buffer-len.false)
 
 pub returns : goal.returns
-returns c = answers_read _ c.if-state.false c.if-state-2.false c.if-buffer-len.false c.read.ensures
+returns c = answers_read _ c.if-state.false c.if-state-2.false c.if-buffer-len.false _ c.read.ensures

@@ -11,4 +11,4 @@ returns-then-not-t c =
 pub returns : goal.returns
 returns c =
     let a = c.args in
-    fed_answered (record { state = a.state; buffer = a.buffer.now }) c.told-buffer a.piece.now c.take-t.ensures (not-false c.take-t.result.ended c.if-not-t.false) c.answer_of-answer.ensures c.fresh-start.ensures
+    fed_answered (record { state = a.state; buffer = a.buffer.now }) c.told-buffer a.piece.now c.take-t.ensures (not-false c.take-t.result.ended c.if-not-t.false) _ c.answer_of-answer.ensures c.fresh-start.ensures

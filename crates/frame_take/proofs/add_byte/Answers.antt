@@ -3,8 +3,8 @@ use mathlib.Core.Path.{sym}
 use Rattle.frames.proofs.Bytes.{added_room, added_full}
 use Rattle.frame_take.proofs.add_byte.Goals as goal
 
-pub returns-then-len-buffer : goal.returns-then-len-buffer
-returns-then-len-buffer c = sym (added_room _ _ c.if-len-buffer.true)
+pub returns-then-paired-buffer : goal.returns-then-paired-buffer
+returns-then-paired-buffer c = sym (added_room _ _ c.if-paired-buffer.true)
 
-pub returns : goal.returns
-returns c = sym (added_full _ _ c.if-len-buffer.false)
+pub returns-else-paired-buffer : goal.returns-else-paired-buffer
+returns-else-paired-buffer c = sym (added_full _ _ c.if-paired-buffer.false)

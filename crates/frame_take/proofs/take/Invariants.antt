@@ -1,11 +1,8 @@
-use Prim.Native.Nat.{◌≤◌, ◌-◌}
+-- What is taken of the whole piece is the bytes passed and what is taken of the rest.
 use mathlib.Core.Path.{◌≡◌}
-use lib.ListN.{length, drop}
+use lib.ListN.{drop}
 use Rattle.frames.specs.Taking.{behind, takes}
 use Rattle.frame_take.proofs.take.Given as goal
 
 abbrev pub invariant-loop-i : goal.invariant-loop-i
-invariant-loop-i l = (l.i ≤ length l.piece) × (length l.buffer ≡ length l.initial.buffer) × (takes (record { state = l.initial.s; buffer = l.initial.buffer }) l.piece ≡ behind l.i (takes (record { state = l.s; buffer = l.buffer }) (drop l.i l.piece)))
-
-abbrev pub decreases-loop-i : goal.decreases-loop-i
-decreases-loop-i l = length l.piece - l.i
+invariant-loop-i l = takes (record { state = l.initial.state; buffer = l.initial.buffer }) l.piece ≡ behind l.i (takes (record { state = l.state; buffer = l.buffer }) (drop l.i l.piece))

@@ -35,8 +35,8 @@ overflow_add-result c =
     let a = c.args in
     omega (arith, optional_fits a.word.now (member a.class) a.s.now word-there c.run_of-n.ensures)
 
-pub returns : goal.returns
-returns c =
+pub returns-else-n-eq0 : goal.returns-else-n-eq0
+returns-else-n-eq0 c =
     let word-there : starts c.args.word.now c.args.s.now ≡ true = sym c.begins.ensures ∙ c.if-not-begins.false in
     let a = c.args in
     optional_found a.word.now (member a.class) a.s.now word-there c.run_of-n.ensures c.if-n-eq0.false

@@ -7,7 +7,7 @@ returns-then-at_end c =
     let a = c.args in
     last_some a.buffer.now a.line (sym c.at_end.ensures ∙ c.if-at_end.true) a.out.now c.put_line.ensures
 
-pub returns : goal.returns
-returns c =
+pub returns-else-at_end : goal.returns-else-at_end
+returns-else-at_end c =
     let a = c.args in
     last_none a.buffer.now a.line (sym c.at_end.ensures ∙ c.if-at_end.false) a.out.now

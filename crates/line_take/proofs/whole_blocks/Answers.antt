@@ -1,21 +1,11 @@
--- The invariant is what is given back: the run of the whole piece is the bytes passed and the run of what is left.
-use Prim.Native.Nat.{◌+◌, ◌-◌}
 use mathlib.Core.Path.{sym, ◌∙◌}
-use native.Mathlib.Omega.{arith}
 use Rattle.lines.specs.Taking.{in_line}
 use Rattle.line_take.proofs.TakingParts.{run_block}
 use Rattle.line_take.proofs.whole_blocks.Goals as goal
 
-pub loop-i-init : goal.loop-i-init
-loop-i-init c = (omega arith, omega arith)
-
-pub returns-then-not-no_end : goal.returns-then-not-no_end
-returns-then-not-no_end c = c.loop-i.invariant
-
-pub loop-i-preserved : goal.loop-i-preserved
-loop-i-preserved c =
-    let i = c.loop-i.i in
-    (omega arith, c.loop-i.invariant.1 ∙ run_block in_line c.args.piece.now i (i + 16) (omega arith) (omega arith) (sym c.no_end.ensures ∙ c.if-not-no_end.false))
-
-pub returns : goal.returns
-returns c = c.loop-i.invariant
+pub loop-block-preserved : goal.loop-block-preserved
+loop-block-preserved c =
+    let i = c.loop-block.invariant in
+    let next = c.in-Some.ensures.steps in
+    let block = run_block in_line c.args.piece.now c.loop-block.passed 16 c.in-Some.block.now _ i.0 (sym i.2 ∙ next.1.0) (next.1.1 ∙ i.3) (sym c.no_end.ensures ∙ c.if-not-no_end.false) in
+    (block.0, i.1 ∙ block.1, block.2, next.0 ∙ i.3)

@@ -30,6 +30,6 @@ pub returns-then-begins : goal.returns-then-begins
 unfolding member
 returns-then-begins c = gene_is c.args.s.now c.optional-n.ensures c.if-n-eq0.false true (sym c.begins.ensures ∙ c.if-begins.true)
 
-pub returns : goal.returns
+pub returns-else-begins : goal.returns-else-begins
 unfolding member
-returns c = gene_is c.args.s.now c.optional-n.ensures c.if-n-eq0.false false (sym c.begins.ensures ∙ c.if-begins.false)
+returns-else-begins c = gene_is c.args.s.now c.optional-n.ensures c.if-n-eq0.false false (sym c.begins.ensures ∙ c.if-begins.false)

@@ -9,8 +9,8 @@ use Rattle.read_header.proofs.header_at.Goals as goal
 pub returns-then-n-eq0 : goal.returns-then-n-eq0
 returns-then-n-eq0 c = no_header c.args.s.now c.accession-n.ensures c.args.at c.if-n-eq0.true
 
-pub span-name-requires : goal.span-name-requires
-span-name-requires c =
+pub span-accession-requires : goal.span-accession-requires
+span-accession-requires c =
     let name-ends : c.accession-n.result ≤ length c.args.s.now = accession_le c.args.s.now c.accession-n.ensures in
     omega (arith, name-ends)
 
@@ -27,12 +27,7 @@ slice_bounds-gene_symbol-start c =
 pub returns-then-g-eq0 : goal.returns-then-g-eq0
 returns-then-g-eq0 c =
     let a = c.args in
-    header_alone a.s.now c.accession-n.ensures c.if-n-eq0.false c.gene_symbol-g.ensures a.at c.span-name.ensures c.if-g-eq0.true
-
-pub overflow_add-at : goal.overflow_add-at
-overflow_add-at c =
-    let gene-ends : c.accession-n.result + 1 + c.gene_symbol-g.result + 1 ≤ length c.args.s.now = gene_le c.args.s.now c.accession-n.ensures c.if-n-eq0.false c.gene_symbol-g.ensures c.if-g-eq0.false in
-    omega (arith, gene-ends)
+    header_alone a.s.now c.accession-n.ensures c.if-n-eq0.false c.gene_symbol-g.ensures a.at c.span-accession.ensures c.if-g-eq0.true
 
 pub overflow_add-at-2 : goal.overflow_add-at-2
 overflow_add-at-2 c =
@@ -44,16 +39,6 @@ span-requires c =
     let gene-ends : c.accession-n.result + 1 + c.gene_symbol-g.result + 1 ≤ length c.args.s.now = gene_le c.args.s.now c.accession-n.ensures c.if-n-eq0.false c.gene_symbol-g.ensures c.if-g-eq0.false in
     omega (arith, gene-ends)
 
-pub overflow_add-result : goal.overflow_add-result
-overflow_add-result c =
-    let gene-ends : c.accession-n.result + 1 + c.gene_symbol-g.result + 1 ≤ length c.args.s.now = gene_le c.args.s.now c.accession-n.ensures c.if-n-eq0.false c.gene_symbol-g.ensures c.if-g-eq0.false in
-    omega (arith, gene-ends)
-
-pub overflow_add-result-2 : goal.overflow_add-result-2
-overflow_add-result-2 c =
-    let gene-ends : c.accession-n.result + 1 + c.gene_symbol-g.result + 1 ≤ length c.args.s.now = gene_le c.args.s.now c.accession-n.ensures c.if-n-eq0.false c.gene_symbol-g.ensures c.if-g-eq0.false in
-    omega (arith, gene-ends)
-
 pub overflow_add-result-3 : goal.overflow_add-result-3
 overflow_add-result-3 c =
     let gene-ends : c.accession-n.result + 1 + c.gene_symbol-g.result + 1 ≤ length c.args.s.now = gene_le c.args.s.now c.accession-n.ensures c.if-n-eq0.false c.gene_symbol-g.ensures c.if-g-eq0.false in
@@ -62,4 +47,4 @@ overflow_add-result-3 c =
 pub returns : goal.returns
 returns c =
     let a = c.args in
-    header_gene a.s.now c.accession-n.ensures c.if-n-eq0.false c.gene_symbol-g.ensures a.at c.span-name.ensures c.if-g-eq0.false c.span.ensures
+    header_gene a.s.now c.accession-n.ensures c.if-n-eq0.false c.gene_symbol-g.ensures a.at c.span-accession.ensures c.if-g-eq0.false c.span.ensures

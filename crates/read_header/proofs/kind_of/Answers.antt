@@ -1,3 +1,4 @@
+use borrow.Author.Rules.{rules}
 use Rattle.read_header.specs.HeaderAnswers.{kind_of, kind_answer}
 use Rattle.read_header.proofs.HeaderCases.{no_letter}
 use Rattle.read_header.proofs.kind_of.Goals as goal
@@ -28,6 +29,4 @@ returns-in-114 c = rw c.in-114.is
 
 pub returns-in_default : goal.returns-in_default
 unfolding kind_answer
-returns-in_default c =
-    let n = c.in_default.in_default-own.rest in
-    rw (no_letter c.args.letter n.0.0.0.0.0.1 n.0.0.0.0.1 n.0.0.0.1 n.0.0.1 n.0.1 n.1)
+returns-in_default c = rw (no_letter c.args.letter (search rules) (search rules) (search rules) (search rules) (search rules) (search rules))

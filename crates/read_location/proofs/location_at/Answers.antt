@@ -3,15 +3,14 @@ use Prim.Native.Nat.{◌+◌, ◌≤◌}
 use mathlib.Core.Path.{◌≡◌, sym, ◌∙◌}
 use native.Mathlib.Omega.{arith}
 use lib.ListN.{length}
-use borrow.Author.Rules.{rules}
 use Rattle.texts.specs.Slices.{tail}
 use Rattle.texts.proofs.Slices.{tail_room}
 use Rattle.texts.proofs.Bracketing.{opening_le}
 use Rattle.read_scan.specs.MuAccounts.{mu_none, mu_le, mu_bare, mu_closed, mu_missing}
 use Rattle.lang_locations.proofs.Languages.{ends_lang}
-use Rattle.read_location.specs.declared.LocationRead.TheVariants.{Nothing, Found}
+use Rattle.std.specs.Prelude.{Some}
 use Rattle.read_location.specs.LocationAnswers.{interval_answer}
-use Rattle.read_location.specs.Told.{location_cases, bracketed}
+use Rattle.read_location.specs.Told.{bracketed}
 use Rattle.read_location.proofs.location_at.Goals as goal
 
 pub slice_bounds-interval_at-count : goal.slice_bounds-interval_at-count
@@ -27,33 +26,33 @@ slice_bounds-interval_at-start c =
 pub overflow_add-at : goal.overflow_add-at
 overflow_add-at c =
     let bracket-le : c.opening-a.result ≤ length c.args.s.now = omega (arith, c.opening-a.ensures, opening_le c.args.s.now) in
-    omega (arith, bracket-le, c.requires.0)
+    omega (arith, bracket-le, c.requires)
 
 pub interval_at-requires : goal.interval_at-requires
 interval_at-requires c =
     let bracket-le : c.opening-a.result ≤ length c.args.s.now = omega (arith, c.opening-a.ensures, opening_le c.args.s.now) in
-    (tail_room _ _ c.args.s.now c.requires.0 bracket-le, search rules)
+    tail_room _ _ c.args.s.now c.requires bracket-le
 
-pub returns-in_default : goal.returns-in_default
-returns-in_default c = mu_none (bracketed c.args.kind) location_cases _ _ _ _ _ c.opening-a.ensures (sym c.in_default.is ∙ c.interval_at.ensures)
+pub returns-in_err-found : goal.returns-in_err-found
+returns-in_err-found c = c.from_residual.ensures ∙ mu_none (bracketed c.args.kind) _ _ _ c.opening-a.ensures (sym c.in_err-found.was ∙ c.interval_at.ensures)
 
 pub closing-requires : goal.closing-requires
 closing-requires c =
-    let read : Found c.in-Found.l c.in-Found.n c.in-Found.faults ≡ interval_answer c.args.kind (c.args.at + c.opening-a.result) ((ends_lang c.args.kind).parse (tail c.opening-a.result c.args.s.now)) = sym c.in-Found.is ∙ c.interval_at.ensures in
-    mu_le (bracketed c.args.kind) location_cases Nothing Found _ _ _ c.opening-a.ensures _ _ _ read
+    let read : Some c.in_ok-found.found ≡ interval_answer c.args.kind (c.args.at + c.opening-a.result) ((ends_lang c.args.kind).parse (tail c.opening-a.result c.args.s.now)) = sym c.in_ok-found.was ∙ c.interval_at.ensures in
+    mu_le (bracketed c.args.kind) _ _ _ c.opening-a.ensures _ read
 
 pub returns-in-Bare : goal.returns-in-Bare
 returns-in-Bare c =
-    let read : Found c.in-Found.l c.in-Found.n c.in-Found.faults ≡ interval_answer c.args.kind (c.args.at + c.opening-a.result) ((ends_lang c.args.kind).parse (tail c.opening-a.result c.args.s.now)) = sym c.in-Found.is ∙ c.interval_at.ensures in
-    mu_bare (bracketed c.args.kind) location_cases _ _ _ _ _ c.opening-a.ensures _ _ _ read (sym c.in-Bare.is ∙ c.closing.ensures)
+    let read : Some c.in_ok-found.found ≡ interval_answer c.args.kind (c.args.at + c.opening-a.result) ((ends_lang c.args.kind).parse (tail c.opening-a.result c.args.s.now)) = sym c.in_ok-found.was ∙ c.interval_at.ensures in
+    mu_bare (bracketed c.args.kind) _ _ _ c.opening-a.ensures _ read (sym c.in-Bare.is ∙ c.closing.ensures)
 
 pub returns-in-Closed : goal.returns-in-Closed
 returns-in-Closed c =
-    let read : Found c.in-Found.l c.in-Found.n c.in-Found.faults ≡ interval_answer c.args.kind (c.args.at + c.opening-a.result) ((ends_lang c.args.kind).parse (tail c.opening-a.result c.args.s.now)) = sym c.in-Found.is ∙ c.interval_at.ensures in
+    let read : Some c.in_ok-found.found ≡ interval_answer c.args.kind (c.args.at + c.opening-a.result) ((ends_lang c.args.kind).parse (tail c.opening-a.result c.args.s.now)) = sym c.in_ok-found.was ∙ c.interval_at.ensures in
     rw c.uncertain.ensures
-    (mu_closed (bracketed c.args.kind) location_cases _ _ _ _ _ c.opening-a.ensures _ _ _ read _ (sym c.in-Closed.is ∙ c.closing.ensures))
+    (mu_closed (bracketed c.args.kind) _ _ _ c.opening-a.ensures _ read _ (sym c.in-Closed.is ∙ c.closing.ensures))
 
 pub returns-in-Missing : goal.returns-in-Missing
 returns-in-Missing c =
-    let read : Found c.in-Found.l c.in-Found.n c.in-Found.faults ≡ interval_answer c.args.kind (c.args.at + c.opening-a.result) ((ends_lang c.args.kind).parse (tail c.opening-a.result c.args.s.now)) = sym c.in-Found.is ∙ c.interval_at.ensures in
-    mu_missing (bracketed c.args.kind) location_cases _ _ _ _ _ c.opening-a.ensures _ _ _ read (sym c.in-Missing.is ∙ c.closing.ensures)
+    let read : Some c.in_ok-found.found ≡ interval_answer c.args.kind (c.args.at + c.opening-a.result) ((ends_lang c.args.kind).parse (tail c.opening-a.result c.args.s.now)) = sym c.in_ok-found.was ∙ c.interval_at.ensures in
+    mu_missing (bracketed c.args.kind) _ _ _ c.opening-a.ensures _ read (sym c.in-Missing.is ∙ c.closing.ensures)

@@ -5,7 +5,6 @@ use Rattle.texts.specs.Words.{starts}
 use Rattle.texts.proofs.Words.{starts_length}
 use Rattle.texts.proofs.Slices.{tail_room}
 use Rattle.read_mark_offset.proofs.MarkOffsetCases.{offset_above, offset_ahead, offset_back, offset_missing}
-use borrow.Author.Rules.{rules}
 use Rattle.read_mark_offset.proofs.offset_at.Goals as goal
 
 pub returns-then-above_signs : goal.returns-then-above_signs
@@ -24,7 +23,7 @@ slice_bounds-offset_behind-start c =
 pub offset_behind-requires : goal.offset_behind-requires
 offset_behind-requires c =
     let ahead : starts (ascii "+") c.args.s.now ≡ true = sym c.begins.ensures ∙ c.if-begins.true in
-    (tail_room _ 1 c.args.s.now c.requires.0 (starts_length (ascii "+") _ ahead), search rules)
+    tail_room _ 1 c.args.s.now c.requires (starts_length (ascii "+") _ ahead)
 
 pub returns-then-begins : goal.returns-then-begins
 returns-then-begins c =
@@ -44,7 +43,7 @@ slice_bounds-offset_behind-start-then-begins-2 c =
 pub offset_behind-requires-then-begins-2 : goal.offset_behind-requires-then-begins-2
 offset_behind-requires-then-begins-2 c =
     let back : starts (ascii "-") c.args.s.now ≡ true = sym c.begins-2.ensures ∙ c.if-begins-2.true in
-    (tail_room _ 1 c.args.s.now c.requires.0 (starts_length (ascii "-") _ back), search rules)
+    tail_room _ 1 c.args.s.now c.requires (starts_length (ascii "-") _ back)
 
 pub returns-then-begins-2 : goal.returns-then-begins-2
 returns-then-begins-2 c =

@@ -11,4 +11,4 @@ pub overflow_add-result : goal.overflow_add-result
 overflow_add-result c = omega (arith, number_le _ _ _ c.number_at-n.ensures)
 
 pub returns : goal.returns
-returns c = behind_some _ _ _ _ c.number_at-n.ensures c.if-n-eq0.false _ c.faults_of.ensures
+returns c = behind_some _ _ _ _ c.number_at-n.ensures c.if-n-eq0.false _ c.of_number.ensures

@@ -81,7 +81,7 @@ returns-then-b-ne0 c =
     let m-is : c.sequence_of-m.result ≡ length (front nucleotide c.args.s.now) = c.sequence_of-m.ensures ∙ sym (front_length nucleotide c.args.s.now) in
     let s = c.args.s.now in
     rw (del_ins_lem nucleotide s (λ e. c.if-b-ne0.true (b-is ∙ e)))
-    (found_del_ins _ _ _ c.no_faults.ensures _ (front nucleotide s) _ m-is c.span.ensures _ (inserted nucleotide (behind nucleotide s)) _ b-is c.span-then-b-ne0.ensures c.settled_if.ensures)
+    (found_del_ins _ _ _ (front nucleotide s) _ m-is c.span.ensures _ (inserted nucleotide (behind nucleotide s)) _ b-is c.span-then-b-ne0.ensures c.settled_if.ensures)
 
 pub returns-then-n-ne0 : goal.returns-then-n-ne0
 unfolding member
@@ -97,9 +97,9 @@ span-requires-2 c =
     let m-le : c.sequence_of-m.result ≤ length c.args.s.now = counted_le nucleotide _ _ c.sequence_of-m.ensures in
     omega (arith, m-le)
 
-pub overflow_add-result-2 : goal.overflow_add-result-2
+pub overflow_add-m : goal.overflow_add-m
 unfolding member
-overflow_add-result-2 c =
+overflow_add-m c =
     let m-le : c.sequence_of-m.result ≤ length c.args.s.now = counted_le nucleotide _ _ c.sequence_of-m.ensures in
     omega (arith, m-le)
 
@@ -110,4 +110,4 @@ returns c =
     let m-is : c.sequence_of-m.result ≡ length (front nucleotide c.args.s.now) = c.sequence_of-m.ensures ∙ sym (front_length nucleotide c.args.s.now) in
     let s = c.args.s.now in
     rw (del_letters nucleotide s (sym b-is ∙ c.if-b-ne0.false) (sym (number_len _ s _ c.number_at-n.ensures) ∙ c.if-n-ne0.false))
-    (found_word _ _ c.no_faults-2.ensures _ (front nucleotide s) _ m-is c.span-2.ensures DelRef (del (front nucleotide s)) (ascii "del") refl refl refl refl refl)
+    (rw c.plain.ensures (found_word _ _ (front nucleotide s) _ m-is c.span-2.ensures DelRef (del (front nucleotide s)) (ascii "del") refl refl refl refl refl))

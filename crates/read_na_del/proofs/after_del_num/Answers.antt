@@ -34,7 +34,7 @@ returns-then-b-eq0 c =
     let b-is : c.inserted-b.result ≡ length (inserted nucleotide (behind digit c.args.s.now)) = inserted_behind nucleotide digit _ _ _ (number_run _ _ _ c.requires.1) c.inserted-b.ensures in
     let s = c.args.s.now in
     rw (del_num_lem nucleotide (front digit s) (behind digit s) (sym b-is ∙ c.if-b-eq0.true))
-    (found_number s _ c.requires.1 _ _ c.faults_of-faults.ensures DelNum (del_num (front digit s)) (ascii "del") refl refl refl refl refl)
+    (found_number s _ c.requires.1 _ _ c.of_number-faults.ensures DelNum (del_num (front digit s)) (ascii "del") refl refl refl refl refl)
 
 pub overflow_add-at-3 : goal.overflow_add-at-3
 overflow_add-at-3 c =
@@ -75,4 +75,4 @@ returns c =
     let b-is : c.inserted-b.result ≡ length (inserted nucleotide (behind digit c.args.s.now)) = inserted_behind nucleotide digit _ _ _ (number_run _ _ _ c.requires.1) c.inserted-b.ensures in
     let s = c.args.s.now in
     rw (del_num_ins_lem nucleotide (front digit s) (behind digit s) (λ z. c.if-b-eq0.false (b-is ∙ z)))
-    (found_num_ins s _ c.requires.1 _ _ c.faults_of-faults.ensures _ (inserted nucleotide (behind digit s)) _ b-is c.span.ensures)
+    (found_num_ins s _ c.requires.1 _ _ c.of_number-faults.ensures _ (inserted nucleotide (behind digit s)) _ b-is c.span.ensures)

@@ -1,73 +1,19 @@
 -- The first of the alternatives that finds something.
-use Prim.Native.Nat.{ℕ}
-use mathlib.Core.Path.{◌≡◌, ◌∙◌}
-use mathlib.Core.List.{List}
-use mathlib.Core.Option.{Option}
+use mathlib.Core.Path.{◌≡◌, ap, ◌∙◌}
+use borrow.Author.Rules.{rules}
 use Rattle.alphabet.specs.Letters.{nucleotide}
-use Rattle.grammar.specs.NucleotideEdits.{NaEditTree}
-use Rattle.lang.specs.Choice.{or_next}
 use Rattle.lang_na_edits.specs.Parse.{parse_ident, parse_subst, parse_del, parse_ins, parse_dup, parse_inv, parse_na_edit}
 use Rattle.read_na_forms.specs.NaEditAnswers.{na_edit_answer}
-use Rattle.read_na_edit.proofs.FirstOfTwo.{or_found, or_nothing}
+use Rattle.read_na_edit.proofs.FirstOfTwo.{first_of, six_in_turn}
 use Rattle.read_na_edit.proofs.na_edit_at.Goals as goal
-
--- the alternatives from one on
-abbrev fromDup : List ℕ → Option NaEditTree
-fromDup s = or_next (parse_dup nucleotide s) (parse_inv nucleotide s)
-
-abbrev fromIns : List ℕ → Option NaEditTree
-fromIns s = or_next (parse_ins nucleotide s) (fromDup s)
-
-abbrev fromDel : List ℕ → Option NaEditTree
-fromDel s = or_next (parse_del nucleotide s) (fromIns s)
-
-abbrev fromSubst : List ℕ → Option NaEditTree
-fromSubst s = or_next (parse_subst nucleotide s) (fromDel s)
-
--- the answer is that of the alternatives that are left
-abbrev Left : ℕ → List ℕ → (List ℕ → Option NaEditTree) → Type 0
-Left at s from = na_edit_answer at (from s) ≡ na_edit_answer at (parse_na_edit nucleotide s)
-
-pub returns-in_default : goal.returns-in_default
-unfolding parse_na_edit
-returns-in_default c = or_found _ (parse_ident nucleotide _) (fromSubst _) _ c.ident-first.ensures _ _ _ c.in_default.is
-
-pub returns-in_default-second : goal.returns-in_default-second
-unfolding parse_na_edit
-returns-in_default-second c =
-    let no-ident : Left c.args.at c.args.s.now fromSubst = or_nothing _ (parse_ident nucleotide _) (fromSubst _) _ c.ident-first.ensures c.in-Nothing.is in
-    or_found _ (parse_subst nucleotide _) (fromDel _) _ c.subst-second.ensures _ _ _ c.in_default-second.is ∙ no-ident
-
-pub returns-in_default-third : goal.returns-in_default-third
-unfolding parse_na_edit
-returns-in_default-third c =
-    let no-subst : Left c.args.at c.args.s.now fromDel = let no-ident : Left c.args.at c.args.s.now fromSubst = or_nothing _ (parse_ident nucleotide _) (fromSubst _) _ c.ident-first.ensures c.in-Nothing.is in
-    or_nothing _ (parse_subst nucleotide _) (fromDel _) _ c.subst-second.ensures c.in-Nothing-second.is ∙ no-ident in
-    or_found _ (parse_del nucleotide _) (fromIns _) _ c.del-third.ensures _ _ _ c.in_default-third.is ∙ no-subst
-
-pub returns-in_default-fourth : goal.returns-in_default-fourth
-unfolding parse_na_edit
-returns-in_default-fourth c =
-    let no-del : Left c.args.at c.args.s.now fromIns = let no-subst : Left c.args.at c.args.s.now fromDel = let no-ident : Left c.args.at c.args.s.now fromSubst = or_nothing _ (parse_ident nucleotide _) (fromSubst _) _ c.ident-first.ensures c.in-Nothing.is in
-    or_nothing _ (parse_subst nucleotide _) (fromDel _) _ c.subst-second.ensures c.in-Nothing-second.is ∙ no-ident in
-    or_nothing _ (parse_del nucleotide _) (fromIns _) _ c.del-third.ensures c.in-Nothing-third.is ∙ no-subst in
-    or_found _ (parse_ins nucleotide _) (fromDup _) _ c.ins-fourth.ensures _ _ _ c.in_default-fourth.is ∙ no-del
-
-pub returns-in_default-fifth : goal.returns-in_default-fifth
-unfolding parse_na_edit
-returns-in_default-fifth c =
-    let no_ins : Left c.args.at c.args.s.now fromDup = let no-del : Left c.args.at c.args.s.now fromIns = let no-subst : Left c.args.at c.args.s.now fromDel = let no-ident : Left c.args.at c.args.s.now fromSubst = or_nothing _ (parse_ident nucleotide _) (fromSubst _) _ c.ident-first.ensures c.in-Nothing.is in
-    or_nothing _ (parse_subst nucleotide _) (fromDel _) _ c.subst-second.ensures c.in-Nothing-second.is ∙ no-ident in
-    or_nothing _ (parse_del nucleotide _) (fromIns _) _ c.del-third.ensures c.in-Nothing-third.is ∙ no-subst in
-    or_nothing _ (parse_ins nucleotide _) (fromDup _) _ c.ins-fourth.ensures c.in-Nothing-fourth.is ∙ no-del in
-    or_found _ (parse_dup nucleotide _) (parse_inv nucleotide _) _ c.dup-fifth.ensures _ _ _ c.in_default-fifth.is ∙ no_ins
 
 pub returns : goal.returns
 unfolding parse_na_edit
 returns c =
-    let no-dup : Left c.args.at c.args.s.now (parse_inv nucleotide) = let no_ins : Left c.args.at c.args.s.now fromDup = let no-del : Left c.args.at c.args.s.now fromIns = let no-subst : Left c.args.at c.args.s.now fromDel = let no-ident : Left c.args.at c.args.s.now fromSubst = or_nothing _ (parse_ident nucleotide _) (fromSubst _) _ c.ident-first.ensures c.in-Nothing.is in
-    or_nothing _ (parse_subst nucleotide _) (fromDel _) _ c.subst-second.ensures c.in-Nothing-second.is ∙ no-ident in
-    or_nothing _ (parse_del nucleotide _) (fromIns _) _ c.del-third.ensures c.in-Nothing-third.is ∙ no-subst in
-    or_nothing _ (parse_ins nucleotide _) (fromDup _) _ c.ins-fourth.ensures c.in-Nothing-fourth.is ∙ no-del in
-    or_nothing _ (parse_dup nucleotide _) (parse_inv nucleotide _) _ c.dup-fifth.ensures c.in-Nothing-fifth.is ∙ no_ins in
-    c.inv.ensures ∙ no-dup
+    let s = c.args.s.now in
+    let to_subst : c.or_else.result ≡ na_edit_answer c.args.at _ = first_of c.args.at (parse_ident nucleotide s) (parse_subst nucleotide s) _ _ c.ident.ensures c.or_else.ensures (λ e. search rules) in
+    let to_del : c.or_else-2.result ≡ na_edit_answer c.args.at _ = first_of c.args.at _ (parse_del nucleotide s) _ _ to_subst c.or_else-2.ensures (λ e. search rules) in
+    let to_ins : c.or_else-3.result ≡ na_edit_answer c.args.at _ = first_of c.args.at _ (parse_ins nucleotide s) _ _ to_del c.or_else-3.ensures (λ e. search rules) in
+    let to_dup : c.or_else-4.result ≡ na_edit_answer c.args.at _ = first_of c.args.at _ (parse_dup nucleotide s) _ _ to_ins c.or_else-4.ensures (λ e. search rules) in
+    let to_inv : c.or_else-5.result ≡ na_edit_answer c.args.at _ = first_of c.args.at _ (parse_inv nucleotide s) _ _ to_dup c.or_else-5.ensures (λ e. search rules) in
+    to_inv ∙ ap (na_edit_answer c.args.at) (six_in_turn (parse_ident nucleotide s) (parse_subst nucleotide s) (parse_del nucleotide s) (parse_ins nucleotide s) (parse_dup nucleotide s) (parse_inv nucleotide s))

@@ -18,11 +18,11 @@ use Rattle.read_na_forms.proofs.after_inv.Goals as goal
 pub overflow_add-result : goal.overflow_add-result
 overflow_add-result c = omega (arith, number_le _ _ _ c.number_at-n.ensures)
 
-pub returns-then-len-ne0 : goal.returns-then-len-ne0
-returns-then-len-ne0 c =
+pub returns-then-n-ne0 : goal.returns-then-n-ne0
+returns-then-n-ne0 c =
     let s = c.args.s.now in
-    rw (inv_digits nucleotide s (λ z. c.if-len-ne0.true (number_len _ s _ c.number_at-n.ensures ∙ z)))
-    (found_number s _ c.number_at-n.ensures _ _ c.faults_of.ensures InvNum (inv_num (front digit s)) (ascii "inv") refl refl refl refl refl)
+    rw (inv_digits nucleotide s (λ z. c.if-n-ne0.true (number_len _ s _ c.number_at-n.ensures ∙ z)))
+    (found_number s _ c.number_at-n.ensures _ _ c.of_number.ensures InvNum (inv_num (front digit s)) (ascii "inv") refl refl refl refl refl)
 
 pub span-requires : goal.span-requires
 unfolding member
@@ -30,9 +30,9 @@ span-requires c =
     let m-le : c.run_of-m.result ≤ length c.args.s.now = counted_le nucleotide _ _ c.run_of-m.ensures in
     omega (arith, m-le)
 
-pub overflow_add-result-2 : goal.overflow_add-result-2
+pub overflow_add-m : goal.overflow_add-m
 unfolding member
-overflow_add-result-2 c =
+overflow_add-m c =
     let m-le : c.run_of-m.result ≤ length c.args.s.now = counted_le nucleotide _ _ c.run_of-m.ensures in
     omega (arith, m-le)
 
@@ -40,5 +40,5 @@ pub returns : goal.returns
 unfolding member
 returns c =
     let s = c.args.s.now in
-    rw (inv_letters nucleotide s (sym (number_len _ s _ c.number_at-n.ensures) ∙ c.if-len-ne0.false))
-    (found_word _ _ c.no_faults.ensures _ (front nucleotide s) _ (c.run_of-m.ensures ∙ sym (front_length nucleotide s)) c.span.ensures InvRef (inv (front nucleotide s)) (ascii "inv") refl refl refl refl refl)
+    rw (inv_letters nucleotide s (sym (number_len _ s _ c.number_at-n.ensures) ∙ c.if-n-ne0.false))
+    (rw c.plain.ensures (found_word _ _ (front nucleotide s) _ (c.run_of-m.ensures ∙ sym (front_length nucleotide s)) c.span.ensures InvRef (inv (front nucleotide s)) (ascii "inv") refl refl refl refl refl))

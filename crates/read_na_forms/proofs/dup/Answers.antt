@@ -19,37 +19,37 @@ use Rattle.read_na_forms.proofs.dup.Goals as goal
 
 pub slice_bounds-sequence_of-count : goal.slice_bounds-sequence_of-count
 slice_bounds-sequence_of-count c =
-    let is-dup : starts (ascii "dup") c.args.s.now ≡ true = sym c.begins.ensures ∙ c.if-begins.true in
+    let is-dup : starts (ascii "dup") c.args.s.now ≡ true = sym c.begins.ensures ∙ c.if-not-begins.false in
     word_long (ascii "dup") _ refl is-dup
 
 pub slice_bounds-sequence_of-start : goal.slice_bounds-sequence_of-start
 slice_bounds-sequence_of-start c =
-    let is-dup : starts (ascii "dup") c.args.s.now ≡ true = sym c.begins.ensures ∙ c.if-begins.true in
+    let is-dup : starts (ascii "dup") c.args.s.now ≡ true = sym c.begins.ensures ∙ c.if-not-begins.false in
     word_long (ascii "dup") _ refl is-dup
 
 pub span-requires : goal.span-requires
 unfolding member
 span-requires c =
-    let room : c.args.at + 3 + c.sequence_of-m.result ≤ 4096 = let is-dup : starts (ascii "dup") c.args.s.now ≡ true = sym c.begins.ensures ∙ c.if-begins.true in
-    omega (arith, counted_le nucleotide _ _ c.sequence_of-m.ensures, word_room (ascii "dup") c.args.s.now c.args.at refl is-dup c.requires.0) in
+    let room : c.args.at + 3 + c.sequence_of-m.result ≤ 4096 = let is-dup : starts (ascii "dup") c.args.s.now ≡ true = sym c.begins.ensures ∙ c.if-not-begins.false in
+    omega (arith, counted_le nucleotide _ _ c.sequence_of-m.ensures, word_room (ascii "dup") c.args.s.now c.args.at refl is-dup c.requires) in
     omega (arith, room)
 
-pub overflow_add-result : goal.overflow_add-result
+pub overflow_add-m : goal.overflow_add-m
 unfolding member
-overflow_add-result c =
-    let room : c.args.at + 3 + c.sequence_of-m.result ≤ 4096 = let is-dup : starts (ascii "dup") c.args.s.now ≡ true = sym c.begins.ensures ∙ c.if-begins.true in
-    omega (arith, counted_le nucleotide _ _ c.sequence_of-m.ensures, word_room (ascii "dup") c.args.s.now c.args.at refl is-dup c.requires.0) in
+overflow_add-m c =
+    let room : c.args.at + 3 + c.sequence_of-m.result ≤ 4096 = let is-dup : starts (ascii "dup") c.args.s.now ≡ true = sym c.begins.ensures ∙ c.if-not-begins.false in
+    omega (arith, counted_le nucleotide _ _ c.sequence_of-m.ensures, word_room (ascii "dup") c.args.s.now c.args.at refl is-dup c.requires) in
     omega (arith, room)
 
-pub returns-then-begins : goal.returns-then-begins
+pub returns : goal.returns
 unfolding parse_dup member
-returns-then-begins c =
-    let is-dup : starts (ascii "dup") c.args.s.now ≡ true = sym c.begins.ensures ∙ c.if-begins.true in
+returns c =
+    let is-dup : starts (ascii "dup") c.args.s.now ≡ true = sym c.begins.ensures ∙ c.if-not-begins.false in
     let s = c.args.s.now in
     let x = take (length s - 3) (drop 3 s) in
     word_found _ (ascii "dup") (λ x. Tree.NaEditTree.dup (front nucleotide x)) s refl is-dup _
-    (found_word _ _ c.no_faults.ensures _ (front nucleotide x) _ (c.sequence_of-m.ensures ∙ sym (front_length nucleotide x)) c.span.ensures Dup (Tree.NaEditTree.dup (front nucleotide x)) (ascii "dup") refl refl refl refl refl)
+    (rw c.plain.ensures (found_word _ _ (front nucleotide x) _ (c.sequence_of-m.ensures ∙ sym (front_length nucleotide x)) c.span.ensures Dup (Tree.NaEditTree.dup (front nucleotide x)) (ascii "dup") refl refl refl refl refl))
 
-pub returns : goal.returns
+pub returns-then-not-begins : goal.returns-then-not-begins
 unfolding parse_dup
-returns c = word_nothing _ (ascii "dup") (λ x. Tree.NaEditTree.dup (front nucleotide x)) _ (sym c.begins.ensures ∙ c.if-begins.false)
+returns-then-not-begins c = word_nothing _ (ascii "dup") (λ x. Tree.NaEditTree.dup (front nucleotide x)) _ (sym c.begins.ensures ∙ c.if-not-begins.true)

@@ -32,22 +32,22 @@ span-seq-requires c =
     let m-le : c.run_of-m.result ≤ length c.args.s.now = counted_le nucleotide _ _ c.run_of-m.ensures in
     omega (arith, m-le)
 
-pub overflow_add-result : goal.overflow_add-result
+pub overflow_add-m : goal.overflow_add-m
 unfolding member
-overflow_add-result c =
+overflow_add-m c =
     let m-le : c.run_of-m.result ≤ length c.args.s.now = counted_le nucleotide _ _ c.run_of-m.ensures in
     omega (arith, m-le)
 
-pub returns-then-begins : goal.returns-then-begins
-unfolding member
-returns-then-begins c =
-    let equal_is : c.begins.result ≡ starts (ascii "=") (behind nucleotide c.args.s.now) = c.begins.ensures ∙ ap (starts (ascii "=")) (part_behind nucleotide c.args.s.now c.run_of-m.result c.run_of-m.ensures) in
-    let s = c.args.s.now in
-    rw (ident_some nucleotide s (sym equal_is ∙ c.if-begins.true))
-    (found_equal _ _ c.no_faults.ensures _ (front nucleotide s) _ (c.run_of-m.ensures ∙ sym (front_length nucleotide s)) c.span-seq.ensures)
-
 pub returns : goal.returns
-unfolding answered member
+unfolding member
 returns c =
     let equal_is : c.begins.result ≡ starts (ascii "=") (behind nucleotide c.args.s.now) = c.begins.ensures ∙ ap (starts (ascii "=")) (part_behind nucleotide c.args.s.now c.run_of-m.result c.run_of-m.ensures) in
-    rw (ident_none nucleotide _ (sym equal_is ∙ c.if-begins.false))
+    let s = c.args.s.now in
+    rw (ident_some nucleotide s (sym equal_is ∙ c.if-not-begins.false))
+    (rw c.plain.ensures (found_equal _ _ (front nucleotide s) _ (c.run_of-m.ensures ∙ sym (front_length nucleotide s)) c.span-seq.ensures))
+
+pub returns-then-not-begins : goal.returns-then-not-begins
+unfolding answered member
+returns-then-not-begins c =
+    let equal_is : c.begins.result ≡ starts (ascii "=") (behind nucleotide c.args.s.now) = c.begins.ensures ∙ ap (starts (ascii "=")) (part_behind nucleotide c.args.s.now c.run_of-m.result c.run_of-m.ensures) in
+    rw (ident_none nucleotide _ (sym equal_is ∙ c.if-not-begins.true))

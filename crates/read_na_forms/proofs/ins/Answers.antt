@@ -22,8 +22,8 @@ span-requires c =
     let m-le : c.inserted-m.result ≤ length c.args.s.now = omega (arith, c.inserted-m.ensures, inserted_le nucleotide c.args.s.now) in
     omega (arith, m-le)
 
-pub overflow_add-result : goal.overflow_add-result
-overflow_add-result c =
+pub overflow_add-m : goal.overflow_add-m
+overflow_add-m c =
     let m-le : c.inserted-m.result ≤ length c.args.s.now = omega (arith, c.inserted-m.ensures, inserted_le nucleotide c.args.s.now) in
     omega (arith, m-le)
 
@@ -31,4 +31,4 @@ pub returns : goal.returns
 returns c =
     let s = c.args.s.now in
     rw (ins_some nucleotide s (λ z. c.if-m-eq0.false (c.inserted-m.ensures ∙ z)))
-    (found_word _ _ c.no_faults.ensures _ (inserted nucleotide s) _ c.inserted-m.ensures c.span.ensures Ins (Tree.NaEditTree.ins (inserted nucleotide s)) (ascii "ins") refl refl refl refl refl)
+    (rw c.plain.ensures (found_word _ _ (inserted nucleotide s) _ c.inserted-m.ensures c.span.ensures Ins (Tree.NaEditTree.ins (inserted nucleotide s)) (ascii "ins") refl refl refl refl refl))

@@ -24,5 +24,5 @@ returns-then-begins c =
     let is-ins : starts (ascii "ins") c.args.s.now ≡ true = sym c.begins.ensures ∙ c.if-begins.true in
     inserted_some nucleotide _ _ is-ins c.sequence_of.ensures
 
-pub returns : goal.returns
-returns c = inserted_none nucleotide _ (sym c.begins.ensures ∙ c.if-begins.false)
+pub returns-else-begins : goal.returns-else-begins
+returns-else-begins c = inserted_none nucleotide _ (sym c.begins.ensures ∙ c.if-begins.false)

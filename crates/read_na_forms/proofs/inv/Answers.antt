@@ -6,7 +6,6 @@ use Rattle.texts.specs.Words.{starts}
 use Rattle.alphabet.specs.Letters.{nucleotide}
 use Rattle.lang_na_edits.specs.Parse.{after_inv, parse_inv}
 use Rattle.read_na_forms.proofs.NaFormCases.{word_long, word_room, word_found, word_nothing}
-use borrow.Author.Rules.{rules}
 use Rattle.read_na_forms.proofs.inv.Goals as goal
 
 pub slice_bounds-after_inv-count : goal.slice_bounds-after_inv-count
@@ -22,7 +21,7 @@ slice_bounds-after_inv-start c =
 pub after_inv-requires : goal.after_inv-requires
 after_inv-requires c =
     let is_word : starts (ascii "inv") c.args.s.now ≡ true = sym c.begins.ensures ∙ c.if-begins.true in
-    (word_room (ascii "inv") _ _ refl is_word c.requires.0, search rules)
+    word_room (ascii "inv") _ _ refl is_word c.requires
 
 pub returns-then-begins : goal.returns-then-begins
 unfolding parse_inv
@@ -30,6 +29,6 @@ returns-then-begins c =
     let is_word : starts (ascii "inv") c.args.s.now ≡ true = sym c.begins.ensures ∙ c.if-begins.true in
     word_found _ (ascii "inv") (after_inv nucleotide) _ refl is_word _ c.after_inv.ensures
 
-pub returns : goal.returns
+pub returns-else-begins : goal.returns-else-begins
 unfolding parse_inv
-returns c = word_nothing _ (ascii "inv") (after_inv nucleotide) _ (sym c.begins.ensures ∙ c.if-begins.false)
+returns-else-begins c = word_nothing _ (ascii "inv") (after_inv nucleotide) _ (sym c.begins.ensures ∙ c.if-begins.false)

@@ -1,6 +1,6 @@
-use Prim.Native.Nat.{◌+◌, ◌-◌, ◌≤◌, min}
+use Prim.Native.Nat.{◌+◌, min}
 use mathlib.Core.Path.{◌≡◌}
-use lib.ListN.{length, take, drop}
+use lib.ListN.{take, drop}
 use Rattle.texts.specs.Runs.{run}
 use Rattle.alphabet.specs.Letters.{digit}
 use Rattle.numerals.specs.Digits.{val}
@@ -8,7 +8,4 @@ use Rattle.numerals.specs.Reading.{too_large}
 use Rattle.read_number.proofs.number_at.Given as goal
 
 abbrev pub invariant-loop-i : goal.invariant-loop-i
-invariant-loop-i l = (l.i ≤ length l.s) × (run digit l.s ≡ l.i + run digit (drop l.i l.s)) × (l.v ≡ min (val (take l.i l.s)) too_large)
-
-abbrev pub decreases-loop-i : goal.decreases-loop-i
-decreases-loop-i l = length l.s - l.i
+invariant-loop-i l = (run digit l.s ≡ l.i + run digit (drop l.i l.s)) × (l.v ≡ min (val (take l.i l.s)) too_large)

@@ -3,7 +3,6 @@ use native.Mathlib.Omega.{arith}
 use lib.ListN.{length}
 use Rattle.texts.proofs.Slices.{tail_room}
 use Rattle.read_position.proofs.Positions.{based_mark, based_number_lem, based_offset, based_none, based_some}
-use borrow.Author.Rules.{rules}
 use Rattle.read_position.proofs.cds_pos.Goals as goal
 
 pub slice_bounds-number_at-count : goal.slice_bounds-number_at-count
@@ -37,27 +36,22 @@ slice_bounds-offset_at-start c =
 pub overflow_add-at : goal.overflow_add-at
 overflow_add-at c =
     let number_le : c.mark_at-m.result.len + c.number_at-n.result.len ≤ length c.args.s.now = based_number_lem c.args.at _ _ c.mark_at-m.ensures _ c.number_at-n.ensures in
-    omega (arith, number_le, c.requires.0)
+    omega (arith, number_le, c.requires)
 
 pub offset_at-o-requires : goal.offset_at-o-requires
 offset_at-o-requires c =
     let number_le : c.mark_at-m.result.len + c.number_at-n.result.len ≤ length c.args.s.now = based_number_lem c.args.at _ _ c.mark_at-m.ensures _ c.number_at-n.ensures in
-    (tail_room _ _ c.args.s.now c.requires.0 number_le, search rules)
+    tail_room _ _ c.args.s.now c.requires number_le
 
 pub overflow_add-result : goal.overflow_add-result
 overflow_add-result c =
     let offset_le : c.mark_at-m.result.len + c.number_at-n.result.len + c.offset_at-o.result.len ≤ length c.args.s.now = based_offset _ _ _ c.mark_at-m.ensures _ c.number_at-n.ensures c.if-n-eq0.false _ c.offset_at-o.ensures in
     omega (arith, offset_le)
 
-pub overflow_add-at-2 : goal.overflow_add-at-2
-overflow_add-at-2 c =
+pub of_number-requires : goal.of_number-requires
+of_number-requires c =
     let mark_le : c.mark_at-m.result.len ≤ length c.args.s.now = based_mark c.args.at _ _ c.mark_at-m.ensures in
-    omega (arith, mark_le, c.requires.0)
-
-pub faults_of-requires : goal.faults_of-requires
-faults_of-requires c =
-    let mark_le : c.mark_at-m.result.len ≤ length c.args.s.now = based_mark c.args.at _ _ c.mark_at-m.ensures in
-    omega (arith, mark_le, c.requires.0)
+    omega (arith, mark_le, c.requires)
 
 pub returns : goal.returns
-returns c = based_some _ _ _ c.mark_at-m.ensures _ c.number_at-n.ensures c.if-n-eq0.false _ c.offset_at-o.ensures _ _ _ c.span.ensures c.faults_of.ensures c.leftmost.ensures
+returns c = based_some _ _ _ c.mark_at-m.ensures _ c.number_at-n.ensures c.if-n-eq0.false _ c.offset_at-o.ensures _ _ _ c.span.ensures c.of_number.ensures c.leftmost.ensures

@@ -23,22 +23,17 @@ returns-then-n-eq0 c = residual_bare _ _ _ c.residue_at-k.ensures _ c.number_at-
 pub span-requires : goal.span-requires
 span-requires c =
     let residue_le : c.residue_at-k.result ≤ length c.args.s.now = residual_le c.args.at _ _ c.residue_at-k.ensures in
-    omega (arith, residue_le, c.requires.0)
+    omega (arith, residue_le, c.requires)
 
 pub overflow_add-result : goal.overflow_add-result
 overflow_add-result c =
     let number_le : c.residue_at-k.result + c.number_at-n.result.len ≤ length c.args.s.now = residual_number_lem c.args.at _ _ c.residue_at-k.ensures _ c.number_at-n.ensures in
     omega (arith, number_le)
 
-pub overflow_add-at : goal.overflow_add-at
-overflow_add-at c =
+pub of_number-requires : goal.of_number-requires
+of_number-requires c =
     let residue_le : c.residue_at-k.result ≤ length c.args.s.now = residual_le c.args.at _ _ c.residue_at-k.ensures in
-    omega (arith, residue_le, c.requires.0)
-
-pub faults_of-requires : goal.faults_of-requires
-faults_of-requires c =
-    let residue_le : c.residue_at-k.result ≤ length c.args.s.now = residual_le c.args.at _ _ c.residue_at-k.ensures in
-    omega (arith, residue_le, c.requires.0)
+    omega (arith, residue_le, c.requires)
 
 pub returns : goal.returns
-returns c = residual_some _ _ _ c.residue_at-k.ensures _ c.number_at-n.ensures c.if-k-eq0.false c.if-n-eq0.false _ _ _ c.span.ensures c.unmarked.ensures c.faults_of.ensures
+returns c = residual_some _ _ _ c.residue_at-k.ensures _ c.number_at-n.ensures c.if-k-eq0.false c.if-n-eq0.false _ _ _ c.span.ensures c.unmarked.ensures c.of_number.ensures

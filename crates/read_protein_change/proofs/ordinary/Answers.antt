@@ -7,7 +7,6 @@ use mathlib.Core.Bool.{true}
 use Prim.Native.Nat.{◌≤◌}
 use lib.ListN.{length}
 use Rattle.read_protein_change.proofs.ProteinChangeCases.{ordinary_opened, ordinary_bare}
-use borrow.Author.Rules.{rules}
 use Rattle.read_protein_change.proofs.ordinary.Goals as goal
 
 pub slice_bounds-opened-count : goal.slice_bounds-opened-count
@@ -26,12 +25,12 @@ pub opened-requires : goal.opened-requires
 opened-requires c =
     let bracket-le : 1 ≤ length c.args.s.now = let bracket : starts (ascii "(") c.args.s.now ≡ true = sym c.begins.ensures ∙ c.if-begins.true in
     starts_length (ascii "(") c.args.s.now bracket in
-    (tail_room _ 1 c.args.s.now c.requires.0 bracket-le, search rules)
+    tail_room _ 1 c.args.s.now c.requires bracket-le
 
 pub returns-then-begins : goal.returns-then-begins
 returns-then-begins c =
     let bracket : starts (ascii "(") c.args.s.now ≡ true = sym c.begins.ensures ∙ c.if-begins.true in
     ordinary_opened _ _ bracket _ c.opened.ensures
 
-pub returns : goal.returns
-returns c = ordinary_bare _ _ (sym c.begins.ensures ∙ c.if-begins.false) _ c.bare.ensures
+pub returns-else-begins : goal.returns-else-begins
+returns-else-begins c = ordinary_bare _ _ (sym c.begins.ensures ∙ c.if-begins.false) _ c.bare.ensures

@@ -3,16 +3,14 @@ use Prim.Native.Nat.{◌+◌, ◌≤◌}
 use mathlib.Core.Path.{◌≡◌, sym, ◌∙◌}
 use native.Mathlib.Omega.{arith}
 use lib.ListN.{length}
-use borrow.Author.Rules.{rules}
 use Rattle.texts.specs.Slices.{tail}
 use Rattle.texts.proofs.Slices.{tail_room}
 use Rattle.texts.proofs.Bracketing.{opening_le}
 use Rattle.read_scan.specs.MuAccounts.{mu_none, mu_le, mu_bare, mu_closed, mu_missing}
 use Rattle.lang_protein_edits.specs.Parse.{parse}
-use Rattle.read_protein_ends.specs.declared.ProteinEditRead.TheVariants.{Found}
-use Rattle.read_protein_edit.specs.declared.MuProteinEditRead.TheVariants as Mus
+use Rattle.std.specs.Prelude.{Some}
 use Rattle.read_protein_edit.specs.ProteinEditAnswers.{protein_edit_answer}
-use Rattle.read_protein_edit.specs.Told.{edit_cases, bracketed}
+use Rattle.read_protein_edit.specs.Told.{bracketed}
 use Rattle.read_protein_edit.proofs.mu_protein_edit_at.Goals as goal
 
 pub slice_bounds-protein_edit_at-count : goal.slice_bounds-protein_edit_at-count
@@ -28,32 +26,32 @@ slice_bounds-protein_edit_at-start c =
 pub overflow_add-at : goal.overflow_add-at
 overflow_add-at c =
     let bracket-le : c.opening-a.result ≤ length c.args.s.now = omega (arith, c.opening-a.ensures, opening_le c.args.s.now) in
-    omega (arith, bracket-le, c.requires.0)
+    omega (arith, bracket-le, c.requires)
 
 pub protein_edit_at-requires : goal.protein_edit_at-requires
 protein_edit_at-requires c =
     let bracket-le : c.opening-a.result ≤ length c.args.s.now = omega (arith, c.opening-a.ensures, opening_le c.args.s.now) in
-    (tail_room _ _ c.args.s.now c.requires.0 bracket-le, search rules)
+    tail_room _ _ c.args.s.now c.requires bracket-le
 
-pub returns-in_default : goal.returns-in_default
-returns-in_default c = mu_none bracketed edit_cases _ _ _ _ _ c.opening-a.ensures (sym c.in_default.is ∙ c.protein_edit_at.ensures)
+pub returns-in_err-found : goal.returns-in_err-found
+returns-in_err-found c = c.from_residual.ensures ∙ mu_none bracketed _ _ _ c.opening-a.ensures (sym c.in_err-found.was ∙ c.protein_edit_at.ensures)
 
 pub closing-requires : goal.closing-requires
 closing-requires c =
-    let read : Found c.in-Found.e c.in-Found.n c.in-Found.faults ≡ protein_edit_answer (c.args.at + c.opening-a.result) (parse (tail c.opening-a.result c.args.s.now)) = sym c.in-Found.is ∙ c.protein_edit_at.ensures in
-    mu_le bracketed edit_cases Mus.Nothing Mus.Found _ _ _ c.opening-a.ensures _ _ _ read
+    let read : Some c.in_ok-found.found ≡ protein_edit_answer (c.args.at + c.opening-a.result) (parse (tail c.opening-a.result c.args.s.now)) = sym c.in_ok-found.was ∙ c.protein_edit_at.ensures in
+    mu_le bracketed _ _ _ c.opening-a.ensures _ read
 
 pub returns-in-Bare : goal.returns-in-Bare
 returns-in-Bare c =
-    let read : Found c.in-Found.e c.in-Found.n c.in-Found.faults ≡ protein_edit_answer (c.args.at + c.opening-a.result) (parse (tail c.opening-a.result c.args.s.now)) = sym c.in-Found.is ∙ c.protein_edit_at.ensures in
-    mu_bare bracketed edit_cases _ _ _ _ _ c.opening-a.ensures _ _ _ read (sym c.in-Bare.is ∙ c.closing.ensures)
+    let read : Some c.in_ok-found.found ≡ protein_edit_answer (c.args.at + c.opening-a.result) (parse (tail c.opening-a.result c.args.s.now)) = sym c.in_ok-found.was ∙ c.protein_edit_at.ensures in
+    mu_bare bracketed _ _ _ c.opening-a.ensures _ read (sym c.in-Bare.is ∙ c.closing.ensures)
 
 pub returns-in-Closed : goal.returns-in-Closed
 returns-in-Closed c =
-    let read : Found c.in-Found.e c.in-Found.n c.in-Found.faults ≡ protein_edit_answer (c.args.at + c.opening-a.result) (parse (tail c.opening-a.result c.args.s.now)) = sym c.in-Found.is ∙ c.protein_edit_at.ensures in
-    mu_closed bracketed edit_cases _ _ _ _ _ c.opening-a.ensures _ _ _ read _ (sym c.in-Closed.is ∙ c.closing.ensures)
+    let read : Some c.in_ok-found.found ≡ protein_edit_answer (c.args.at + c.opening-a.result) (parse (tail c.opening-a.result c.args.s.now)) = sym c.in_ok-found.was ∙ c.protein_edit_at.ensures in
+    mu_closed bracketed _ _ _ c.opening-a.ensures _ read _ (sym c.in-Closed.is ∙ c.closing.ensures)
 
 pub returns-in-Missing : goal.returns-in-Missing
 returns-in-Missing c =
-    let read : Found c.in-Found.e c.in-Found.n c.in-Found.faults ≡ protein_edit_answer (c.args.at + c.opening-a.result) (parse (tail c.opening-a.result c.args.s.now)) = sym c.in-Found.is ∙ c.protein_edit_at.ensures in
-    mu_missing bracketed edit_cases _ _ _ _ _ c.opening-a.ensures _ _ _ read (sym c.in-Missing.is ∙ c.closing.ensures)
+    let read : Some c.in_ok-found.found ≡ protein_edit_answer (c.args.at + c.opening-a.result) (parse (tail c.opening-a.result c.args.s.now)) = sym c.in_ok-found.was ∙ c.protein_edit_at.ensures in
+    mu_missing bracketed _ _ _ c.opening-a.ensures _ read (sym c.in-Missing.is ∙ c.closing.ensures)

@@ -9,7 +9,6 @@ use Rattle.texts.specs.Ascii.{ascii}
 use Rattle.texts.specs.Words.{starts}
 use Rattle.texts.proofs.Words.{starts_length}
 use Rattle.read_protein_edit.proofs.ProteinEditCases.{front_le, word_room, found_fs, found_ext, found_equal, found_unknown, found_subst, found_worded}
-use borrow.Author.Rules.{rules}
 use Rattle.read_protein_edit.proofs.protein_edit_at.Goals as goal
 
 pub slice_bounds-rest-count : goal.slice_bounds-rest-count
@@ -35,7 +34,7 @@ slice_bounds-fs-start c =
 pub fs-requires : goal.fs-requires
 fs-requires c =
     let is-fs : starts (ascii "fs") (tail c.residue_at-n.result c.args.s.now) ≡ true = sym c.begins.ensures ∙ c.if-begins.true in
-    (word_room _ c.args.s.now _ c.residue_at-n.ensures (ascii "fs") is-fs c.requires.0, search rules)
+    word_room _ c.args.s.now _ c.residue_at-n.ensures (ascii "fs") is-fs c.requires
 
 pub returns-then-begins : goal.returns-then-begins
 returns-then-begins c =
@@ -55,7 +54,7 @@ slice_bounds-ext-start c =
 pub ext-requires : goal.ext-requires
 ext-requires c =
     let is-ext : starts (ascii "ext") (tail c.residue_at-n.result c.args.s.now) ≡ true = sym c.begins-2.ensures ∙ c.if-begins-2.true in
-    (word_room _ c.args.s.now _ c.residue_at-n.ensures (ascii "ext") is-ext c.requires.0, search rules)
+    word_room _ c.args.s.now _ c.residue_at-n.ensures (ascii "ext") is-ext c.requires
 
 pub returns-then-begins-2 : goal.returns-then-begins-2
 returns-then-begins-2 c =
@@ -67,14 +66,14 @@ pub returns-then-begins-3 : goal.returns-then-begins-3
 returns-then-begins-3 c =
     let no-ext : starts (ascii "ext") (tail c.residue_at-n.result c.args.s.now) ≡ false = sym c.begins-2.ensures ∙ c.if-begins-2.false in
     let no_fs : starts (ascii "fs") (tail c.residue_at-n.result c.args.s.now) ≡ false = sym c.begins.ensures ∙ c.if-begins.false in
-    found_equal _ c.args.s.now _ c.residue_at-n.ensures no_fs no-ext _ (sym c.begins-3.ensures ∙ c.if-begins-3.true) c.no_faults.ensures
+    rw c.plain.ensures (found_equal _ c.args.s.now _ c.residue_at-n.ensures no_fs no-ext (sym c.begins-3.ensures ∙ c.if-begins-3.true))
 
 pub returns-then-begins-4 : goal.returns-then-begins-4
 returns-then-begins-4 c =
     let no_equal : starts (ascii "=") c.args.s.now ≡ false = sym c.begins-3.ensures ∙ c.if-begins-3.false in
     let no-ext : starts (ascii "ext") (tail c.residue_at-n.result c.args.s.now) ≡ false = sym c.begins-2.ensures ∙ c.if-begins-2.false in
     let no_fs : starts (ascii "fs") (tail c.residue_at-n.result c.args.s.now) ≡ false = sym c.begins.ensures ∙ c.if-begins.false in
-    found_unknown _ c.args.s.now _ c.residue_at-n.ensures no_fs no-ext no_equal _ _ (sym c.begins-4.ensures ∙ c.if-begins-4.true) c.span.ensures c.unsettled.ensures
+    found_unknown _ c.args.s.now _ c.residue_at-n.ensures no_fs no-ext no_equal _ (sym c.begins-4.ensures ∙ c.if-begins-4.true) c.span.ensures
 
 pub span-requires-then-n-ne0 : goal.span-requires-then-n-ne0
 span-requires-then-n-ne0 c =
@@ -87,7 +86,7 @@ returns-then-n-ne0 c =
     let no_equal : starts (ascii "=") c.args.s.now ≡ false = sym c.begins-3.ensures ∙ c.if-begins-3.false in
     let no-ext : starts (ascii "ext") (tail c.residue_at-n.result c.args.s.now) ≡ false = sym c.begins-2.ensures ∙ c.if-begins-2.false in
     let no_fs : starts (ascii "fs") (tail c.residue_at-n.result c.args.s.now) ≡ false = sym c.begins.ensures ∙ c.if-begins.false in
-    found_subst _ c.args.s.now _ c.residue_at-n.ensures no_fs no-ext no_equal no-unknown _ _ c.if-n-ne0.true c.span-then-n-ne0.ensures c.no_faults-then-n-ne0.ensures
+    rw c.plain-then-n-ne0.ensures (found_subst _ c.args.s.now _ c.residue_at-n.ensures no_fs no-ext no_equal no-unknown _ c.if-n-ne0.true c.span-then-n-ne0.ensures)
 
 pub returns : goal.returns
 returns c =

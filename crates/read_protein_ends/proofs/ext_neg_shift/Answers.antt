@@ -75,8 +75,8 @@ overflow_add-k-4 c =
     earlier_room 0 0 c.args.s.now _ c.residue_at-m.ensures minus c.number_at-d.result c.number_at-d.ensures in
     omega (arith, all-le)
 
-pub faults_of-requires : goal.faults_of-requires
-faults_of-requires c =
+pub of_number-requires : goal.of_number-requires
+of_number-requires c =
     let all-le : c.residue_at-m.result + 1 + c.number_at-d.result.len ≤ length c.args.s.now = let minus : starts (ascii "-") (tail c.residue_at-m.result c.args.s.now) ≡ true = sym c.begins.ensures ∙ c.if-not-begins.false in
     earlier_room 0 0 c.args.s.now _ c.residue_at-m.ensures minus c.number_at-d.result c.number_at-d.ensures in
     omega (arith, all-le)
@@ -84,4 +84,4 @@ faults_of-requires c =
 pub returns : goal.returns
 returns c =
     let minus : starts (ascii "-") (tail c.residue_at-m.result c.args.s.now) ≡ true = sym c.begins.ensures ∙ c.if-not-begins.false in
-    earlier_found _ _ c.args.s.now _ c.residue_at-m.ensures minus c.number_at-d.result c.number_at-d.ensures _ _ _ _ c.if-d-eq0.false c.residue_part.ensures c.residue_part-2.ensures c.faults_of.ensures c.settled_if.ensures
+    earlier_found _ _ c.args.s.now _ c.residue_at-m.ensures minus c.number_at-d.result c.number_at-d.ensures _ _ _ _ c.if-d-eq0.false c.residue_part.ensures c.residue_part-2.ensures c.of_number.ensures c.settled_if.ensures

@@ -4,10 +4,10 @@ use Rattle.read_protein_ends.proofs.Ends.{length_counted, length_unknown, length
 use Rattle.read_protein_ends.proofs.length_at.Goals as goal
 
 pub returns-then-n-ne0 : goal.returns-then-n-ne0
-returns-then-n-ne0 c = length_counted _ c.args.s.now _ c.number_at-n.result c.number_at-n.ensures c.if-n-ne0.true c.faults_of.ensures
+returns-then-n-ne0 c = length_counted _ c.args.s.now c.number_at-n.result c.number_at-n.ensures _ c.if-n-ne0.true c.of_number.ensures
 
 pub returns-then-begins : goal.returns-then-begins
-returns-then-begins c = length_unknown _ c.args.s.now _ c.number_at-n.result c.number_at-n.ensures c.if-n-ne0.false c.no_faults.ensures (sym c.begins.ensures ∙ c.if-begins.true)
+returns-then-begins c = c.plain.ensures ∙ length_unknown _ c.args.s.now c.number_at-n.result c.number_at-n.ensures c.if-n-ne0.false (sym c.begins.ensures ∙ c.if-begins.true)
 
-pub returns : goal.returns
-returns c = length_unsaid _ c.args.s.now _ c.number_at-n.result c.number_at-n.ensures c.if-n-ne0.false c.no_faults-2.ensures (sym c.begins.ensures ∙ c.if-begins.false)
+pub returns-else-begins : goal.returns-else-begins
+returns-else-begins c = c.plain-else-begins.ensures ∙ length_unsaid _ c.args.s.now c.number_at-n.result c.number_at-n.ensures c.if-n-ne0.false (sym c.begins.ensures ∙ c.if-begins.false)

@@ -1,16 +1,15 @@
 -- No terminal; or a terminal and the length behind it.
 use Prim.Native.Nat.{◌+◌, ◌≤◌}
-use mathlib.Core.Path.{ap}
+use mathlib.Core.Path.{ap, ◌∙◌}
 use native.Mathlib.Omega.{arith}
 use lib.ListN.{length, length-drop}
 use Rattle.texts.specs.Slices.{tail}
 use Rattle.texts.proofs.Slices.{tail_part}
 use Rattle.read_protein_ends.proofs.Ends.{terminal_le, length_le, stop_none, stop_some}
-use borrow.Author.Rules.{rules}
 use Rattle.read_protein_ends.proofs.stop_at.Goals as goal
 
 pub returns-then-t-eq0 : goal.returns-then-t-eq0
-returns-then-t-eq0 c = stop_none _ c.args.s.now _ c.terminal_at-t.ensures _ c.if-t-eq0.true c.no_faults.ensures
+returns-then-t-eq0 c = c.plain.ensures ∙ stop_none _ c.args.s.now _ c.terminal_at-t.ensures c.if-t-eq0.true
 
 pub slice_bounds-length_at-count : goal.slice_bounds-length_at-count
 slice_bounds-length_at-count c =
@@ -30,7 +29,7 @@ overflow_add-at c =
 pub length_at-n-requires : goal.length_at-n-requires
 length_at-n-requires c =
     let t-le : c.terminal_at-t.result ≤ length c.args.s.now = omega (arith, c.terminal_at-t.ensures, terminal_le c.args.s.now) in
-    (omega (arith, t-le), search rules)
+    omega (arith, t-le)
 
 pub span-requires : goal.span-requires
 span-requires c =

@@ -1,6 +1,5 @@
 use Prim.Native.Nat.{◌+◌}
 use mathlib.Core.Path.{◌≡◌, sym, ap, ◌∙◌}
-use mathlib.Core.Bool.{true, false}
 use lib.ListN.{drop}
 use Rattle.texts.specs.Ascii.{ascii}
 use Rattle.texts.specs.Words.{starts}
@@ -16,7 +15,7 @@ returns-then-begins c =
     let test : c.begins.result ≡ starts (ascii ")") (drop (c.args.opening + c.args.n) c.args.s.now) = c.begins.ensures ∙ ap (starts (ascii ")")) (tail_part (c.args.opening + c.args.n) c.args.s.now) in
     is_closed _ _ _ c.if-opening-eq0.false (sym test ∙ c.if-begins.true)
 
-pub returns : goal.returns
-returns c =
+pub returns-else-begins : goal.returns-else-begins
+returns-else-begins c =
     let test : c.begins.result ≡ starts (ascii ")") (drop (c.args.opening + c.args.n) c.args.s.now) = c.begins.ensures ∙ ap (starts (ascii ")")) (tail_part (c.args.opening + c.args.n) c.args.s.now) in
     is_missing _ _ _ c.if-opening-eq0.false (sym test ∙ c.if-begins.false)

@@ -6,6 +6,6 @@ pub returns-then-begins : goal.returns-then-begins
 unfolding opening
 returns-then-begins c = rw (sym c.begins.ensures ∙ c.if-begins.true) refl
 
-pub returns : goal.returns
+pub returns-else-begins : goal.returns-else-begins
 unfolding opening
-returns c = rw (sym c.begins.ensures ∙ c.if-begins.false) refl
+returns-else-begins c = rw (sym c.begins.ensures ∙ c.if-begins.false) refl

@@ -1,17 +1,9 @@
-use Rattle.reader.proofs.ReadCases.{reads_refused, reads_settled, reads_unsettled}
+use Rattle.std.proofs.lemmas.Result.{err_from_is_err_and}
+use Rattle.reader.proofs.ReadCases.{reads_as}
 use Rattle.reader.proofs.read.Goals as goal
 
-pub returns-in-Refused : goal.returns-in-Refused
-returns-in-Refused c =
-    let r = c.reading_of in
-    reads_refused _ r.result r.ensures c.in-Refused.why c.in-Refused.is
+pub returns-in_err-reading : goal.returns-in_err-reading
+returns-in_err-reading c = let p = err_from_is_err_and c.from_residual.result c.from_residual.ensures.1 in rw (p.1, p.2) c.in_err-reading.ensures
 
-pub returns-in-Settled : goal.returns-in-Settled
-returns-in-Settled c =
-    let r = c.reading_of in
-    reads_settled _ _ _ _ c.accepted.ensures r.result r.ensures c.in-Settled.is
-
-pub returns-in-Unsettled : goal.returns-in-Unsettled
-returns-in-Unsettled c =
-    let r = c.reading_of in
-    reads_unsettled _ _ _ _ c.accepted-in-Unsettled.ensures r.result r.ensures c.in-Unsettled.is
+pub returns : goal.returns
+returns c = reads_as _ c.in_ok-reading.reading _ c.into-body.ensures c.in_ok-reading.ensures

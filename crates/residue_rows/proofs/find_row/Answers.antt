@@ -1,5 +1,5 @@
 -- The loops' invariants: what `left` packs is left to search, and row i agrees where what is left of it from byte j does.
-use Prim.Native.Nat.{◌-◌, ◌%◌}
+use Prim.Native.Nat.{◌%◌}
 use mathlib.Core.Path.{refl, sym}
 use native.Mathlib.Omega.{arith}
 use borrow.Author.Rules.{rules}

@@ -6,4 +6,4 @@ use Rattle.writer.proofs.write_noref.Goals as goal
 pub returns : goal.returns
 returns c =
     let a = c.args in
-    any_writes a.source.now a.v a.output.now NoRef _ _ refl (sym c.any_body.ensures) _ _ c.write_any.ensures.0 c.write_any.ensures.1
+    any_writes a.source.now a.v a.output.now NoRef _ _ refl (sym c.into.ensures) _ _ c.write_any.ensures.0 c.write_any.ensures.1

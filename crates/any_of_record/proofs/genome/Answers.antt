@@ -1,8 +1,0 @@
-use borrow.Author.Rules.{rules}
-use Rattle.any_of_record.proofs.genome.Goals as goal
-
-pub returns-in-Unknown : goal.returns-in-Unknown
-returns-in-Unknown c = rw c.in-Unknown.is
-
-pub returns-in-At : goal.returns-in-At
-returns-in-At c = rw c.in-At.is (search rules)

@@ -1,9 +1,0 @@
-use Rattle.record.specs.declared.Kind.TheVariants.{Prot}
-use Rattle.any_location.proofs.ToRecord.{certain_for, bracketed_for}
-use Rattle.any_to_record.proofs.prot_interval.Goals as goal
-
-pub returns-then-l : goal.returns-then-l
-returns-then-l c = certain_for Prot c.args.l _ _ c.prot.ensures c.prot-2.ensures c.if-l.true
-
-pub returns-else-l : goal.returns-else-l
-returns-else-l c = bracketed_for Prot c.args.l _ _ c.prot.ensures c.prot-2.ensures c.if-l.false

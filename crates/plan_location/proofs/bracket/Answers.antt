@@ -1,4 +1,0 @@
-use Rattle.plan_location.proofs.bracket.Goals as goal
-
-pub returns : goal.returns
-returns c = rw c.if-certain.false

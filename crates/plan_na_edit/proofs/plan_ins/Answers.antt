@@ -1,5 +1,0 @@
-use mathlib.Core.Path.{◌∙◌}
-use Rattle.plan_na_edit.proofs.plan_ins.Goals as goal
-
-pub returns : goal.returns
-returns c = c.edit_if.ensures ∙ rw (c.is_seq1.ensures, c.word_edit.ensures)
