@@ -21,6 +21,7 @@ pub struct Position {
     pub offset: Offset,
 }
 
+// Both ends are there in either case.
 #[derive(Clone, Copy)]
 pub struct Location {
     pub certain: bool,

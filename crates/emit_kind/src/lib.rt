@@ -8,7 +8,7 @@ ghost use Rattle.emit_kind.specs.Letters.{kind_letter};
 
 use record::Kind;
 
-// No `From`: neither type is of this crate.
+// No `From` in `record`: what the letters are is defined above it (`grammar: Header.print_kind`).
 fn kind_letter(k: Kind) -> u8
     ensures { result ≡ kind_letter k }
 {

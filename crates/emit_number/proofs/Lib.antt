@@ -1,1 +1,2 @@
 pub mod LastDigitFirst
+pub mod PowerLength

@@ -12,20 +12,18 @@ pub fn magnitude(v: i32) -> u32
     v.unsigned_abs()
 }
 
-// How long the decimal text of v is. No method of the library counts digits.
+// How long the decimal text of v is.
 pub fn decimal_len(v: u32) -> usize
     ensures { (result ≡ length (dec v)) × (result ≤ 10) }
 {
-    let mut w = v;
-    let mut n = 1;
-    while 10 <= w {
-        w /= 10;
-        n += 1;
+    match v.checked_ilog10() {
+        None => 1,
+        Some(k) => k as usize + 1,
     }
-    n
 }
 
-// Writes the decimal text of v at a place, the last digit first, and gives the place behind it. The library's printing of a number needs a sink that may fail.
+// Writes the decimal text of v at a place, the last digit first, and gives the place behind it. The loop goes by what is left of the number: over the places
+// alone it would have to be shown that both end together.
 pub fn put_decimal(out: &mut [u8], at: usize, v: u32) -> usize
     requires { at + length (dec v) ≤ length out.old }
     ensures { (result ≡ at + length (dec v)) × (out.new ≡ put out.old at (dec v)) }

@@ -1,4 +1,5 @@
-// How many bytes at the front of a text are an accession, or a word with bytes of a class behind it.
+// How many bytes at the front of a text are an accession, or a word with bytes of a class behind it. None where they are not there: lengths are added up, and no
+// such text is empty.
 #![tactic(auto)]
 
 ghost use Rattle.std.specs.Prelude.{◌≡◌};

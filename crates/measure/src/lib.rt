@@ -7,7 +7,7 @@ ghost use Rattle.promise.specs.Width.{Measures};
 
 use record::{HgvsVariant, WidthAnswer};
 
-// The width of the record's location, or the refusal's number.
+// The width of the record's location, or why there is none.
 #[tactic(auto, using(measure_any::specs::AnyMeasures::any_measures))]
 pub fn width(source: &[u8], v: HgvsVariant) -> WidthAnswer
     ensures { Measures all_letters source.now v (width_outcome result) }

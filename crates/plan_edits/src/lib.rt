@@ -8,6 +8,7 @@ use emit_edit::EditPieces;
 use emit_word::Word;
 use record::Span;
 
+// No part is an empty one: nothing is written of either, and the pieces' texts have one case.
 pub const NO_SPAN: Span = Span { start: 0, end: 0 };
 
 // The pieces of an edit's text, where a test lets them through.

@@ -9,6 +9,7 @@ use emit_location::{LocationPieces, PositionPieces};
 use emit_piece::{Amount, OneByte};
 use record::{CdsFrom, Kind, Offset, Span};
 
+// No second position is one without pieces: nothing is written of it, and a location's text has one case.
 pub const NO_END: PositionPieces = PositionPieces {
     residue: plan_edits::NO_SPAN,
     mark: None,

@@ -49,7 +49,7 @@ pub fn header_at(s: &[u8], at: usize) -> Option<(Header, usize)>
     Some((header, n + 1 + g + 1))
 }
 
-// No `TryFrom`: neither type is of this crate.
+// No `TryFrom` in `record`: what the letters are is defined above it (`lang_headers: Kinds.parse_kind`).
 fn kind_of(letter: u8) -> Option<Kind>
     ensures { result ≡ kind_answer (kind_of letter) }
 {

@@ -9,35 +9,8 @@ ghost use Rattle.lang_bodies.proofs.NaBodies.{na_body_lang};
 ghost use Rattle.read_na_body.specs.NaBodyAnswers.{na_answer};
 
 use any_body::AnyBody;
-use any_location::{Location, Position};
 use read_scan::Faults;
-use record::{Kind, Span};
-
-// The same position and location, part by part, as `read_na_edit` rebuilds an edit.
-fn rebuilt_position(p: Position) -> Position
-    ensures { result ≡ p }
-{
-    Position {
-        aa: Span {
-            start: p.aa.start,
-            end: p.aa.end,
-        },
-        number: p.number,
-        unknown: p.unknown,
-        cds_from: p.cds_from,
-        offset: p.offset,
-    }
-}
-
-fn rebuilt(l: Location) -> Location
-    ensures { result ≡ l }
-{
-    Location {
-        certain: l.certain,
-        start: rebuilt_position(l.start),
-        end: rebuilt_position(l.end),
-    }
-}
+use record::Kind;
 
 // A body that stands up to the end of the text, and what is wrong with its numbers.
 pub fn na_body(kind: Kind, s: &[u8], at: usize) -> Option<(AnyBody, Faults)>
@@ -50,6 +23,6 @@ pub fn na_body(kind: Kind, s: &[u8], at: usize) -> Option<(AnyBody, Faults)>
     if n + edit.len != s.len() {
         return None;
     }
-    let body = AnyBody::Nucleotide(kind, rebuilt(location.value), edit.value);
+    let body = AnyBody::Nucleotide(kind, location.value, edit.value);
     Some((body, location.faults.leftmost(edit.faults)))
 }

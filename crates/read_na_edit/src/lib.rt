@@ -12,7 +12,7 @@ ghost use Rattle.read_na_edit.specs.MuNaEditAnswers.{mu_na_edit_answer};
 use read_scan::{Ending, Found};
 use record::{MuNaEdit, NaEdit};
 
-// The edit at the front of s: the alternatives in the crate's order.
+// The edit at the front of s: the alternatives in the Rust's order.
 fn na_edit_at(s: &[u8], at: usize) -> Option<Found<NaEdit>>
     requires { at + length s.now ≤ 4096 }
     ensures { result ≡ na_edit_answer at ((na_edit_lang nucleotide nucleotides).parse s.now) }
@@ -25,22 +25,6 @@ fn na_edit_at(s: &[u8], at: usize) -> Option<Found<NaEdit>>
         .or_else(|| read_na_forms::inv(s, at))
 }
 
-// The same edit, part by part: moved whole it is copied as bytes, and to read back at once in other widths what was just written stalls the processor.
-fn rebuilt(e: NaEdit) -> NaEdit
-    ensures { result ≡ e }
-{
-    match e {
-        NaEdit::RefAlt(reference, alternative) => NaEdit::RefAlt(reference, alternative),
-        NaEdit::NumAlt(count, alternative) => NaEdit::NumAlt(count, alternative),
-        NaEdit::DelRef(reference) => NaEdit::DelRef(reference),
-        NaEdit::DelNum(count) => NaEdit::DelNum(count),
-        NaEdit::Ins(alternative) => NaEdit::Ins(alternative),
-        NaEdit::Dup(reference) => NaEdit::Dup(reference),
-        NaEdit::InvRef(reference) => NaEdit::InvRef(reference),
-        NaEdit::InvNum(count) => NaEdit::InvNum(count),
-    }
-}
-
 // The edit at the front of s, in round brackets or not.
 pub fn mu_na_edit_at(s: &[u8], at: usize) -> Option<Found<MuNaEdit>>
     requires { at + length s.now ≤ 4096 }
@@ -50,12 +34,12 @@ pub fn mu_na_edit_at(s: &[u8], at: usize) -> Option<Found<MuNaEdit>>
     let found = na_edit_at(&s[a..], at + a)?;
     match read_scan::closing(s, a, found.len) {
         Ending::Bare => Some(Found {
-            value: MuNaEdit::Certain(rebuilt(found.value)),
+            value: MuNaEdit::Certain(found.value),
             len: found.len,
             faults: found.faults,
         }),
         Ending::Closed(len) => Some(Found {
-            value: MuNaEdit::Uncertain(rebuilt(found.value)),
+            value: MuNaEdit::Uncertain(found.value),
             len,
             faults: found.faults,
         }),

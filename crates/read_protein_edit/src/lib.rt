@@ -43,7 +43,7 @@ fn worded(s: &[u8], at: usize) -> Option<Found<ProteinEdit>>
     None
 }
 
-// The edit at the front of s, which stands at `at` in its text. The alternatives are tried in the crate's order.
+// The edit at the front of s, which stands at `at` in its text. The alternatives are tried in the Rust's order.
 pub fn protein_edit_at(s: &[u8], at: usize) -> Option<Found<ProteinEdit>>
     requires { at + length s.now ≤ 4096 }
     ensures { result ≡ protein_edit_answer at (protein_edit_lang.parse s.now) }

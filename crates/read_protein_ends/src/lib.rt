@@ -123,7 +123,7 @@ fn ext_neg_shift(s: &[u8], at: usize, n: usize) -> Option<Found<ProteinEdit>>
     })
 }
 
-// Behind the word `ext`: a terminal, or nothing (the crate's `ext_minimal`).
+// Behind the word `ext`: a terminal, or nothing (the Rust's `ext_minimal`).
 fn ext_pos_shift(s: &[u8], at: usize, n: usize) -> Found<ProteinEdit>
     requires { at + n + 3 + length s.now ≤ 4096 }
     ensures { result ≡ ext_read at n (later_of (stop_at s.now)) }

@@ -25,7 +25,8 @@ const DOES_NOT_FIT: usize = 3;
 
 const RANKS: usize = 16;
 
-// The rank of what is told of a part, and RANKS times its place: a number is handed on in a register, an enum is not, and reading is 1.7 times as fast for it.
+// The rank of what is told of a part, and RANKS times its place. As an enum it was tried and misses the bar of speed: a number is handed on in a register, an enum
+// is not, and reading takes 1.7 times as long (docs/DECISIONS.md).
 #[derive(Clone, Copy)]
 pub struct Faults {
     code: usize,

@@ -14,7 +14,7 @@ use read_scan::{Faults, Verdict};
 use record::{Header, Kind, Refusal};
 
 // What reading tells of a text that is not refused: the header and the body of its record, and whether it is settled. A text is settled where its spelling shows
-// that it is the shortest text of its record.
+// that it is the shortest text of its record; header and body are there in either case.
 #[derive(Clone, Copy)]
 pub struct Reading {
     pub header: Header,

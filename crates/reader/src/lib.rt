@@ -7,7 +7,7 @@ ghost use Rattle.promise.specs.Reading.{Reads};
 
 use record::{HgvsVariant, ReadAnswer};
 
-// Any bytes: the record, or the refusal's number and place.
+// Any bytes: the record, or why they are refused.
 pub fn read(text: &[u8]) -> ReadAnswer
     ensures { Reads all_letters text.now (read_outcome result) }
 {

@@ -24,7 +24,7 @@ pub fn residue_at(s: &[u8]) -> usize
     }
 }
 
-// Three bytes a turn, as long as a row stands there: no chunks, since what is left may be shorter than one.
+// Three bytes a turn, as long as a row stands there: `i` is the answer.
 fn threes_at(s: &[u8]) -> usize
     ensures { result ≡ threes_len s.now }
 {

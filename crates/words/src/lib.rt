@@ -1,4 +1,4 @@
-// Words at the front of a text, and texts that are one.
+// Words at the front of a text, and texts that are one: the library's comparisons, in the words of the definitions, which the laws above speak of.
 #![tactic(auto)]
 
 ghost use Rattle.std.specs.Prelude.{◌≡◌};

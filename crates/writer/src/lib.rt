@@ -10,7 +10,7 @@ use record::{HgvsVariant, Wording, WriteAnswer};
 
 // Two functions, as they are called, over one: `write_any::write_any`.
 
-// The shortest text, first in byte order among equals, at the front of the output; or the refusal's number, and nothing written.
+// The shortest text, first in byte order among equals, at the front of the output; or why it is refused, and nothing written.
 pub fn write(source: &[u8], v: HgvsVariant, output: &mut [u8]) -> WriteAnswer
     ensures { Writes all_letters (ToWrite all_letters) source.now v output.old (write_outcome result) output.new }
 {

@@ -1,13 +1,10 @@
--- The invariant: n and the digits of w that are left make up the digits of v.
-use native.Mathlib.Omega.{arith}
-use Rattle.numerals.proofs.Decimals.{dec_one_length, dec_more_length, dec_short}
+use Rattle.std.proofs.Common.{sym, arith}
+use Rattle.numerals.proofs.Decimals.{dec_one_length}
+use Rattle.emit_number.proofs.PowerLength.{power_length}
 use Rattle.emit_number.proofs.decimal_len.Goals as goal
 
-pub overflow_add-n : goal.overflow_add-n
-overflow_add-n c = omega (arith, dec_short c.args.v (omega arith))
+pub returns-in-None : goal.returns-in-None
+returns-in-None c = (sym (dec_one_length c.args.v (omega (arith, c.in-None.ensures.none))), omega arith)
 
-pub loop-w-preserved : goal.loop-w-preserved
-loop-w-preserved c = omega (arith, dec_more_length c.loop-w.w c.loop-w-test.true)
-
-pub returns : goal.returns
-returns c = (omega (arith, dec_one_length c.loop-w.w c.loop-w-test.false), omega (arith, dec_one_length c.loop-w.w c.loop-w-test.false, dec_short c.args.v (omega arith)))
+pub returns-in-Some : goal.returns-in-Some
+returns-in-Some c = (sym (power_length c.in-Some.k c.args.v c.in-Some.ensures.power_le c.in-Some.ensures.next_power_gt), omega (arith, c.in-Some.ensures.bound))

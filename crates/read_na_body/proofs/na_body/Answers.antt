@@ -54,5 +54,4 @@ pub returns : goal.returns
 returns c =
     let edit : MuTold (c.args.at + c.in_ok-location.location.len) (take (length c.args.s.now - c.in_ok-location.location.len) (drop c.in_ok-location.location.len c.args.s.now)) c.in_ok-edit.edit = mu_told _ _ _ (sym c.in_ok-edit.was ∙ c.mu_na_edit_at.ensures) in
     let loc : LocationTold c.args.kind c.args.at c.args.s.now c.in_ok-location.location = location_told c.args.kind _ _ _ (sym c.in_ok-location.was ∙ c.location_at.ensures) in
-    rw c.rebuilt.ensures
     (body_found _ _ _ loc edit c.if-n-edit.false _ c.leftmost.ensures)

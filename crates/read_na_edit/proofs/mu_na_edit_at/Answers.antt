@@ -45,13 +45,11 @@ closing-requires c =
 pub returns-in-Bare : goal.returns-in-Bare
 returns-in-Bare c =
     let read : Some c.in_ok-found.found ≡ na_edit_answer (c.args.at + c.opening-a.result) (parse_na_edit nucleotide (tail c.opening-a.result c.args.s.now)) = sym c.in_ok-found.was ∙ c.na_edit_at.ensures in
-    rw c.rebuilt.ensures
     (mu_bare bracketed _ _ _ c.opening-a.ensures _ read (sym c.in-Bare.is ∙ c.closing.ensures))
 
 pub returns-in-Closed : goal.returns-in-Closed
 returns-in-Closed c =
     let read : Some c.in_ok-found.found ≡ na_edit_answer (c.args.at + c.opening-a.result) (parse_na_edit nucleotide (tail c.opening-a.result c.args.s.now)) = sym c.in_ok-found.was ∙ c.na_edit_at.ensures in
-    rw c.rebuilt-in-Closed.ensures
     (mu_closed bracketed _ _ _ c.opening-a.ensures _ read _ (sym c.in-Closed.is ∙ c.closing.ensures))
 
 pub returns-in-Missing : goal.returns-in-Missing
