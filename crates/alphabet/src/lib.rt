@@ -1,11 +1,11 @@
 // The alphabets: which class a byte is of, and how many bytes of a class stand at the front of a text.
 #![tactic(auto)]
 
-ghost use Rattle.std.specs.Prelude.{◌≡◌, ◌+◌, ◌%◌, ◌≤◌, length, drop};
+ghost use Rattle.std.specs.Prelude.{◌≡◌, ◌+◌, ◌%◌, ◌≤◌, length, drop, get_or};
 ghost use Rattle.texts.specs.Runs.{run};
 ghost use Rattle.alphabet.specs.Classes.{member};
 ghost use Rattle.alphabet.specs.declared.Class.TheVariants.{Nucleotide};
-ghost use Rattle.alphabet.specs.Cells.{Cell, lowest as lowestOf, highest as highestOf};
+ghost use Rattle.alphabet.specs.Cells.{Cell, class_table, lowest as lowestOf, highest as highestOf};
 
 // 0 no letter, digit or `*`; 2 `*`; 4 a residue letter that is no nucleotide letter;
 // 5 U; 7 another upper-case nucleotide letter but T; 9 T; 11 t; 13 another lower-case nucleotide letter but u; 15 u;
@@ -56,7 +56,7 @@ fn highest(class: Class) -> u8
 }
 
 fn number_of(b: u8) -> u8
-    ensures { Cell b result }
+    ensures { (result ≡ get_or class_table b 0) × Cell b result }
 {
     CLASS[b as usize]
 }

@@ -3,7 +3,7 @@ use Prim.Native.Nat.{ℕ, ◌≤◌, ◌<◌}
 use mathlib.Core.Path.{◌≡◌, sym, ap, ◌∙◌}
 use mathlib.Core.Bool.{true, false, ◌||◌}
 use mathlib.Core.List.{List}
-use mathlib.Core.Option.{Option, none}
+use mathlib.Core.Option.{Option, none, some}
 use lib.Dec.{ltb}
 use lib.ListN.{length, take}
 use borrow.Author.Tests.{lt-ltb, le-ltb}
@@ -63,3 +63,10 @@ module _ (g : Standing) (room : length g.buffer ≡ limit) (piece : List ℕ) {r
   pub fed_answered : r.ended ≡ true → (a : ReadAnswer) → AnswersText (record { state = r.state; buffer = buffer }) a → {s : FrameState} → s ≡ fresh
       → Feeds g piece r.used r.state.len (frame_outcome (Some a)) (record { state = s; buffer = buffer })
   fed_answered e a answer start = feeds (rw start (answered (sym (ap (λ (x : FrameTaken). x.ended) took.0) ∙ e) (rw stands at answer)))
+
+-- the same, of a call's arguments one by one and of whatever is the answer
+module _ (state : FrameState) (buffer piece : List ℕ) {r : FrameTaken} {after : List ℕ} where
+  pub call_answered : length buffer ≡ limit → (r ≡ told (takes (record { state = state; buffer = buffer }) piece)) × (after ≡ (takes (record { state = state; buffer = buffer }) piece).at.buffer)
+      → r.ended ≡ true → (a : ReadAnswer) → AnswersText (record { state = r.state; buffer = after }) a → {s : FrameState} → s ≡ fresh → {o : Option Answer} → o ≡ some (read_outcome a)
+      → Feeds (record { state = state; buffer = buffer }) piece r.used r.state.len o (record { state = s; buffer = after })
+  call_answered room took e a answer start same = rw same (fed_answered (record { state = state; buffer = buffer }) room piece took e a answer start)

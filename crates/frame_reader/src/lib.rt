@@ -36,6 +36,7 @@ fn answer_of(state: FrameState, buffer: &[u8]) -> ReadAnswer
 }
 
 // Takes the bytes of a piece up to an empty line, or all of them; the buffer holds the text so far.
+#[tactic(auto, using(crate::proofs::CallAnswers::call_answered))]
 pub fn feed(state: FrameState, piece: &[u8], buffer: &mut [u8; 4096]) -> Fed
     ensures { Feeds (record { state = state; buffer = buffer.old }) piece.now result.used result.len (frame_outcome result.answer) (record { state = result.state; buffer = buffer.new }) }
 {

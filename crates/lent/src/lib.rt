@@ -8,12 +8,12 @@ ghost use Rattle.std.specs.Prelude.{◌≡◌, ◌+◌, ◌≤◌, length};
 ghost use Rattle.lent.specs.Put.{put};
 
 // Writes a text at a place, and gives the place behind it.
-#[tactic(auto, using(crate::proofs::Parts::put_part))]
 pub fn put_bytes(out: &mut [u8], at: usize, text: &[u8]) -> usize
     requires { at + length text.now ≤ length out.old }
     ensures { (result ≡ at + length text.now) × (out.new ≡ put out.old at text.now) }
 {
-    let end = at + text.len();
-    out[at..end].copy_from_slice(text);
-    end
+    for (i, b) in text.iter().enumerate() {
+        out[at + i] = *b;
+    }
+    at + text.len()
 }

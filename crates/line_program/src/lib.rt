@@ -3,12 +3,20 @@
 // functions whose contracts say all of it (`line_turns`), and `act` makes the calls.
 #![tactic(auto)]
 
-ghost use Rattle.std.specs.Prelude.{◌≤◌, length};
+ghost use Rattle.std.specs.Prelude.{◌≡◌, ◌≤◌, length, MatchResult, Some, None};
 ghost use Rattle.line_runs.specs.After.{Ready, Acted};
 ghost use Rattle.line_runs.specs.Runs.{Ran, RanFromZeros};
 
 use line_runs::Next;
+use std::io;
 use std::io::{Read, Write};
+
+// What a read has given: a count of bytes, or none where it has failed. A failed read is no end of the input.
+fn got(read: io::Result<usize>) -> Option<usize>
+    ensures { MatchResult read (λ n. result ≡ Some n) (λ _. result ≡ None) }
+{
+    read.ok()
+}
 
 // One read, one step, one write or the last line's answer, and what comes next.
 // The three rooms are no struct: tried, and the proof of `act` didn't close where a part of a field is lent.
@@ -25,7 +33,7 @@ fn act<R: Read, W: Write>(
     ensures { Acted next input.old buffer.old out.old result input.new buffer.new out.new }
 {
     match next {
-        Next::Read(line) => line_turns::after_read(from.read(input).ok(), input, line),
+        Next::Read(line) => line_turns::after_read(got(from.read(input)), input, line),
         Next::Step(rest) => {
             let s = line_steps::step(&input[rest.used..rest.piece], buffer, rest.line, out);
             line_turns::after_step(s, rest)

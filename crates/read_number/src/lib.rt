@@ -1,7 +1,7 @@
 // Reading a number: what the digits at the front of a text are, with the sign that stood before them.
 #![tactic(auto)]
 
-ghost use Rattle.std.specs.Prelude.{◌≡◌, ◌≤◌, min, pos, neg_ℤ};
+ghost use Rattle.std.specs.Prelude.{◌≡◌, ◌≤◌, cond};
 ghost use Rattle.texts.specs.Ascii.{ascii};
 ghost use Rattle.texts.specs.Words.{starts};
 ghost use Rattle.numerals.specs.Spelling.{plain_sign, plainly};
@@ -70,17 +70,27 @@ fn begins_with_zero(s: &[u8]) -> bool
     matches!(s, [b'0', ..])
 }
 
-// The digits at the front of a text, of any length, in one pass.
+// What the digits are worth, of which v is the value where they are not too large.
+fn capped(v: u64, large: bool) -> u64
+    ensures { result ≡ cond large too_large v }
+{
+    if large { TOO_LARGE } else { v }
+}
+
+// The digits at the front of a text, of any length, in one pass. Once they are too large, v runs on and is not looked at: capped at each digit, it would be waited
+// for by the next.
 pub fn number_at(s: &[u8], sign: Sign) -> Number
     ensures { result ≡ number_at sign s.now }
 {
     let zero = begins_with_zero(s);
-    let mut v = 0;
+    let mut v: u64 = 0;
+    let mut large = false;
     for (i, &b) in s.iter().enumerate() {
         if !alphabet::is_in(Class::Digit, b) {
-            return number_of(i, sign, v, zero);
+            return number_of(i, sign, capped(v, large), zero);
         }
-        v = (10 * v + u64::from(b - b'0')).min(TOO_LARGE);
+        v = v.wrapping_mul(10).wrapping_add(u64::from(b - b'0'));
+        large |= TOO_LARGE <= v;
     }
-    number_of(s.len(), sign, v, zero)
+    number_of(s.len(), sign, capped(v, large), zero)
 }

@@ -8,6 +8,7 @@ ghost use Rattle.promise.specs.Reading.{Reads};
 use record::{HgvsVariant, ReadAnswer};
 
 // Any bytes: the record, or why they are refused.
+#[tactic(auto, using(crate::proofs::ReadCases::reads_as, std::proofs::lemmas::Result::err_from_is_err_and))]
 pub fn read(text: &[u8]) -> ReadAnswer
     ensures { Reads all_letters text.now (read_outcome result) }
 {

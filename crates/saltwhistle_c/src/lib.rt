@@ -10,6 +10,7 @@ use numbered::Answer;
 
 // Whether the text is one of the grammar whose numbers fit.
 #[unsafe(no_mangle)]
+#[tactic(auto, using(crate::specs::Told::read_checks, crate::specs::Told::refused_checks))]
 pub extern "C" fn saltwhistle_check(text: &[u8]) -> Answer
     ensures { Checks text.now result }
 {
@@ -37,6 +38,7 @@ pub extern "C" fn saltwhistle_noref(text: &[u8], output: &mut [u8]) -> Answer
 
 // How many bases or residues the text's location spans.
 #[unsafe(no_mangle)]
+#[tactic(auto, using(crate::specs::Told::read_gauges, crate::specs::Told::refused_gauges))]
 pub extern "C" fn saltwhistle_width(text: &[u8]) -> Answer
     ensures { Gauges text.now result }
 {

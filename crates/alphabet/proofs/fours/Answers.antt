@@ -29,4 +29,4 @@ four_more s rest h l e =
 pub loop-rest-preserved : goal.loop-rest-preserved
 loop-rest-preserved c =
     four_more c.args.s.now c.loop-rest.rest.now c.loop-rest.invariant c.in-len4-up.len_at_least
-    (four_flags _ _ _ _ _ _ _ _ c.number_of.ensures.odd c.number_of-in-len4-up.ensures.odd c.number_of-in-len4-up-2.ensures.odd c.number_of-in-len4-up-3.ensures.odd c.if-joined-eq0.false)
+    (four_flags _ _ _ _ _ _ _ _ c.number_of.ensures.1.odd c.number_of-in-len4-up.ensures.1.odd c.number_of-in-len4-up-2.ensures.1.odd c.number_of-in-len4-up-3.ensures.1.odd c.if-joined-eq0.false)

@@ -22,7 +22,7 @@ module _ {b k low : ℕ} (class : Class) (h : Cell b k) where
       lt-leb _ _ e ∙ (rw (← l, lt-leb _ _ e) at rule)
 
 pub returns-then-lowest-number : goal.returns-then-lowest-number
-returns-then-lowest-number c = above _ c.number_of-number.ensures c.lowest.ensures c.highest.ensures c.if-lowest-number.true
+returns-then-lowest-number c = above _ c.number_of-number.ensures.1 c.lowest.ensures c.highest.ensures c.if-lowest-number.true
 
 pub returns-else-lowest-number : goal.returns-else-lowest-number
-returns-else-lowest-number c = below _ c.number_of-number.ensures c.lowest.ensures c.if-lowest-number.false
+returns-else-lowest-number c = below _ c.number_of-number.ensures.1 c.lowest.ensures c.if-lowest-number.false
