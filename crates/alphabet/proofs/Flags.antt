@@ -26,3 +26,9 @@ four_flags a b c d w x y z e f g i h =
     let two = joined a b w x e f in
     let three = joined (a && b) c (bit_and w x) y two g in
     raised (((a && b) && c) && d) (rw (joined ((a && b) && c) d (bit_and (bit_and w x) y) z three i) at h)
+
+-- where two joined numbers are odd, each is
+pub both_odd : (x y : ℕ) → (bit_and x y % 2 ≡ 0 → ⊥) → (x % 2 ≡ 0 → ⊥) × (y % 2 ≡ 0 → ⊥)
+both_odd x y h =
+    let e : bit_and x y % 2 ≡ min (x % 2) (y % 2) = omega (arith, and_step x y) in
+    (λ q. h (omega (arith, e, q)), λ q. h (omega (arith, e, q)))

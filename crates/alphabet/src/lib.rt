@@ -79,15 +79,16 @@ pub fn run_of(class: Class, s: &[u8]) -> usize
     s.len()
 }
 
-// Four nucleotide letters a turn, up to the first four bytes that are not all such letters. Their numbers are odd, so joined by `&` they are odd where each is:
+// Two fours of nucleotide letters a turn, up to the first two that are not all such letters. Their numbers are odd, so joined by `&` they are odd where each is:
 // one test for all of them, without a jump.
 fn fours(s: &[u8]) -> usize
     ensures { (result ≤ length s.now) × (run (member Nucleotide) s.now ≡ result + run (member Nucleotide) (drop result s.now)) }
 {
     let mut rest = s;
-    while let [a, b, c, d, behind @ ..] = rest {
-        let joined = number_of(*a) & number_of(*b) & number_of(*c) & number_of(*d);
-        if joined % 2 == 0 {
+    while let [a, b, c, d, e, f, g, h, behind @ ..] = rest {
+        let front = number_of(*a) & number_of(*b) & number_of(*c) & number_of(*d);
+        let back = number_of(*e) & number_of(*f) & number_of(*g) & number_of(*h);
+        if (front & back) % 2 == 0 {
             break;
         }
         rest = behind;
@@ -95,11 +96,11 @@ fn fours(s: &[u8]) -> usize
     s.len() - rest.len()
 }
 
-// The nucleotide letters at the front, as run_of counts them; those of a long text four a turn.
+// The nucleotide letters at the front, as run_of counts them; those of a text that is not short eight a turn.
 pub fn sequence_of(s: &[u8]) -> usize
     ensures { result ≡ run (member Nucleotide) s.now }
 {
-    if 64 <= s.len() {
+    if 16 <= s.len() {
         let counted = fours(s);
         return counted + run_of(Class::Nucleotide, &s[counted..]);
     }

@@ -10,12 +10,7 @@ use Rattle.alphabet.proofs.sequence_of.Goals as goal
 
 pub overflow_add-result : goal.overflow_add-result
 overflow_add-result c =
-    let whole : c.fours-counted.result + c.run_of.result ≡ run (member Nucleotide) c.args.s.now = let s = c.args.s.now in
+    let s = c.args.s.now in
+    let whole : c.fours-counted.result + c.run_of.result ≡ run (member Nucleotide) s =
     omega (arith, c.run_of.ensures, c.fours-counted.ensures, ap (run (member Nucleotide)) (tail_part c.fours-counted.result s)) in
-    omega (arith, whole, run_le (member Nucleotide) c.args.s.now)
-
-pub returns-then-s-ge64 : goal.returns-then-s-ge64
-returns-then-s-ge64 c =
-    let whole : c.fours-counted.result + c.run_of.result ≡ run (member Nucleotide) c.args.s.now = let s = c.args.s.now in
-    omega (arith, c.run_of.ensures, c.fours-counted.ensures, ap (run (member Nucleotide)) (tail_part c.fours-counted.result s)) in
-    whole
+    omega (arith, whole, run_le (member Nucleotide) s)
